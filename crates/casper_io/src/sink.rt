@@ -1,0 +1,43 @@
+ghost use Rattle.std.specs.Prelude.{◌≡◌, ℕ, List, Option, ◌<◌, ◌≤◌, length, take, IfOk, OnOk, OnErr};
+ghost use Rattle.std.specs.Io.KnownBytes.{append_known};
+ghost use Rattle.casper_words.specs.Count.{Rose};
+ghost use Rattle.casper_io.specs.Told.{TakesFront};
+
+use crate::IoFault;
+
+/// Where bytes go to: a file, a terminal, another program, or memory.
+///
+/// A sink may tell which bytes it has taken, or tell nothing; no call changes whether it tells. It counts
+/// the writes that failed, up to `u64::MAX`. A write that takes no byte of a piece that has some has failed.
+pub trait Sink {
+    // The bytes taken, where told.
+    ghost taken: { Self → Option (List ℕ) };
+
+    // How many writes failed.
+    ghost faults: { Self → ℕ };
+
+    /// Takes bytes from the front of the piece, and answers how many: at least one, if there is one. Where the write
+    /// fails, the bytes taken stay.
+    fn write(&mut self, from: &[u8]) -> Result<usize, IoFault>
+        ensures count { IfOk result (λ count. count ≤ length from.now) }
+        ensures moves { IfOk result (λ count. 0 < length from.now → 0 < count) }
+        ensures moved { IfOk result (λ count. taken self.new ≡ append_known (taken self.old) (take count from.now)) }
+        ensures kept { OnErr result (taken self.new ≡ taken self.old) }
+        ensures counted { OnErr result (Rose (faults self.old) (faults self.new)) }
+        ensures never_falls { faults self.old ≤ faults self.new };
+}
+
+/// Writes all the bytes, in as many writes as the sink asks for. A fault leaves the bytes from some place on unwritten.
+/// It takes no memory.
+pub fn put_all<K: Sink>(sink: &mut K, bytes: &[u8]) -> Result<(), IoFault>
+    ensures all { OnOk result (K.taken sink.new ≡ append_known (K.taken sink.old) bytes.now) }
+    ensures part { OnErr result (TakesFront (K.taken sink.old) (K.taken sink.new) bytes.now) }
+    ensures counted { OnErr result (Rose (K.faults sink.old) (K.faults sink.new)) }
+    ensures never_falls { K.faults sink.old ≤ K.faults sink.new }
+{
+    let mut done = 0;
+    while done < bytes.len() {
+        done += sink.write(&bytes[done..])?;
+    }
+    Ok(())
+}
