@@ -1,0 +1,14 @@
+pub mod CallLists
+pub mod Causes
+pub mod Growth
+pub mod Images
+pub mod InTurn
+pub mod KnownTrails
+pub mod LinkLists
+pub mod Links
+pub mod LiveLegal
+pub mod Pages
+pub mod Parts
+pub mod Rounds
+pub mod Values
+pub mod Whole
