@@ -1,0 +1,15 @@
+pub mod ApartLeads
+pub mod FinishFrozen
+pub mod FinishImage
+pub mod FrozenChanges
+pub mod ImageChanges
+pub mod KeptByTurns
+pub mod LeaveFrozen
+pub mod Lists
+pub mod OpeningFrozen
+pub mod PendingSteps
+pub mod StepFrozen
+pub mod StepImage
+pub mod Touches
+pub mod TurnFrozen
+pub mod WrittenImage

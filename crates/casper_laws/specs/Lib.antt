@@ -1,0 +1,3 @@
+pub mod FrozenLaws
+pub mod PendingLaws
+pub mod StoredImage
