@@ -1,0 +1,274 @@
+use Rattle.std.proofs.Common.{◌≡◌, ℕ, zero, suc, ◌+◌, ◌-◌, ◌<◌, ◌≤◌, Bool, true, false, cond, not, eqb, eq-eqb, List, [], ◌∷◌, ◌++◌, Some, None, length, take, drop, remove, set, get_or, slice_get, find, map, reverse, slice_index, refl, sym, ap, ◌∙◌, subst, ⊎_elim, arith}
+use Rattle.std.specs.Option.{option_map, option_to_list}
+use Rattle.std.proofs.lemmas.Bool.{eqb-true, ne_eqb, cases_eq}
+use Rattle.std.proofs.lemmas.List.{drop_more, take_more, get_or-reverse, get_or-map, length-map, length-reverse}
+use Rattle.std.proofs.lemmas.Option.{slice_get-get_or, slice_get_read}
+use Rattle.casper_cache.specs.declared.held.Held.{Held}
+use Rattle.casper_cache.specs.Holding.{is_of, entry_of, word_of, others, front_of, written, with_word, for_reading, lowered, ArePagesDistinct}
+use Rattle.casper_cache.proofs.ListPlaces.{take_one-drop, take_one-drop-set, remove-set}
+
+-- what is found passes
+pub found_passes : {X : Type 0} (p : X → Bool) (xs : List X) (x : X) → find p xs ≡ Some x → p x ≡ true
+found_passes p [] x e = cc
+found_passes p (y ∷ ys) x e =
+    (elim (p y) as (λ b. p y ≡ b → cond b (Some y) (find p ys) ≡ Some x → p x ≡ true) [
+      | true ↦ λ is h. let same : y ≡ x = cc in subst (λ z. p z ≡ true) same is
+      | false ↦ λ _ h. found_passes p ys x h
+    ]) refl e
+
+-- what stands at a place and passes is missed by no search
+pub found_at : {X : Type 0} (p : X → Bool) (xs : List X) (i : ℕ) (x : X) → slice_get xs i ≡ Some x → p x ≡ true → find p xs ≡ None → ⊥
+found_at p [] i x at passes none = cc
+found_at p (y ∷ ys) zero x at passes none =
+    let same : y ≡ x = cc in
+    let here : p y ≡ true = subst (λ z. p z ≡ true) (sym same) passes in
+    (elim (p y) as (λ b. b ≡ true → cond b (Some y) (find p ys) ≡ None → ⊥) [ true ↦ λ _ h. cc | false ↦ λ e _. cc ]) here none
+found_at p (y ∷ ys) (suc i) x at passes none =
+    (elim (p y) as (λ b. cond b (Some y) (find p ys) ≡ None → ⊥) [ true ↦ λ h. cc | false ↦ λ h. found_at p ys i x at passes h ])
+    none
+
+-- no other is dropped where the page is not held
+pub others-absent : (page : ℕ) (held : List Held) → entry_of page held ≡ None → others page held ≡ held
+others-absent page [] none = refl
+others-absent page (x ∷ xs) none =
+    (elim (eqb x.page page) as (λ b. cond b (Some x) (entry_of page xs) ≡ None → cond (not b) (x ∷ others page xs) (others page xs) ≡ x ∷ xs) [
+      | true ↦ λ h. cc
+      | false ↦ λ h. ap (λ l. x ∷ l) (others-absent page xs h)
+    ]) none
+
+-- a test of two equal numbers
+is_of-same : (page : ℕ) (entry : Held) → entry.page ≡ page → is_of page entry ≡ true
+is_of-same page entry is = eq-eqb entry.page page is
+
+-- without the entry at the page's place, the others are left
+pub remove-others : (page : ℕ) (held : List Held) (place : ℕ) (entry : Held) →
+    ArePagesDistinct held → slice_get held place ≡ Some entry → entry.page ≡ page → remove held place ≡ others page held
+remove-others page [] place entry distinct at is = cc
+remove-others page (x ∷ xs) zero entry distinct at is =
+    let same : x ≡ entry = cc in
+    let here : x.page ≡ page = ap (λ (e : Held). e.page) same ∙ is in
+    let test : is_of page x ≡ true = is_of-same page x here in
+    let absent : entry_of page xs ≡ None = subst (λ q. entry_of q xs ≡ None) here distinct.0 in
+    rw test (sym (others-absent page xs absent))
+remove-others page (x ∷ xs) (suc place) entry distinct at is =
+    let rest : remove xs place ≡ others page xs = remove-others page xs place entry distinct.1 at is in
+    (elim (is_of page x) as (λ b. is_of page x ≡ b → x ∷ remove xs place ≡ cond (not b) (x ∷ others page xs) (others page xs)) [
+      | true ↦ λ test.
+          let here : x.page ≡ page = eqb-true x.page page test in
+          absurd (found_at (is_of x.page) xs place entry at (is_of-same x.page entry (is ∙ sym here)) distinct.0)
+      | false ↦ λ _. ap (λ l. x ∷ l) rest
+    ]) refl
+
+-- the entry that is found is one of the page
+pub entry_of-page : (page : ℕ) (held : List Held) (entry : Held) → entry_of page held ≡ Some entry → entry.page ≡ page
+entry_of-page page held entry e = eqb-true entry.page page (found_passes (is_of page) held entry e)
+
+-- a page is held, and its entry stands at a place
+pub record StandsAt (page : ℕ) (held : List Held) (place : ℕ) : Type 0 where
+  pub within : place < length held
+  pub found : slice_get held place ≡ entry_of page held
+
+-- what a search of the same list says of a place
+pub stands_at : (page : ℕ) (held seen : List Held) (place : ℕ) → seen ≡ held →
+    place < length seen → slice_get seen place ≡ entry_of page seen → StandsAt page held place
+stands_at page held seen place same within found =
+    subst (λ l. StandsAt page l place) same (record { within = within; found = found })
+
+-- the entry that stands there is the one that is found, and is of the page
+pub entry_of-at : (page : ℕ) (held : List Held) (place : ℕ) (entry : Held) →
+    StandsAt page held place → entry ≡ get_or held place entry → entry_of page held ≡ Some entry
+entry_of-at page held place entry stands read = sym stands.found ∙ slice_get_read held (length held) place entry refl stands.within read
+
+-- the list has an entry at the place
+some_entry : (held : List Held) (place : ℕ) → place < length held → (entry : Held) × (slice_get held place ≡ Some entry)
+some_entry [] place within = absurd (omega arith)
+some_entry (x ∷ xs) place within = (get_or (x ∷ xs) place x, slice_get-get_or (x ∷ xs) place x within)
+
+-- without the entry at the page's place, the others are left
+pub others-at : (page : ℕ) (held : List Held) (place : ℕ) → ArePagesDistinct held → StandsAt page held place → remove held place ≡ others page held
+others-at page held place distinct stands =
+    let here = some_entry held place stands.within in
+    remove-others page held place here.0 distinct here.1 (entry_of-page page held here.0 (sym stands.found ∙ here.1))
+
+-- the entry at the page's place, in front of the others
+pub front-at : (page : ℕ) (held : List Held) (place : ℕ) → ArePagesDistinct held → StandsAt page held place →
+    take 1 (drop place held) ++ remove held place ≡ front_of page held
+front-at page held place distinct stands =
+    rw (take_one-drop held place, others-at page held place distinct stands, stands.found) refl
+
+-- a changed entry at the page's place, in front of the others
+pub changed_front-at : (page : ℕ) (held : List Held) (place : ℕ) (entry : Held) → ArePagesDistinct held → StandsAt page held place →
+    take 1 (drop place (set held place entry)) ++ remove (set held place entry) place ≡ entry ∷ others page held
+changed_front-at page held place entry distinct stands =
+    rw (take_one-drop-set held place entry stands.within, remove-set held place entry, others-at page held place distinct stands) refl
+
+-- a word written at the page's place, in front of the others
+pub written-at : (page word value : ℕ) (held : List Held) (place : ℕ) (entry : Held) → ArePagesDistinct held → StandsAt page held place →
+    entry ≡ get_or held place entry →
+    take 1 (drop place (set held place (with_word word value entry))) ++ remove (set held place (with_word word value entry)) place ≡
+    written page word value held
+written-at page word value held place entry distinct stands read =
+    changed_front-at page held place (with_word word value entry) distinct stands ∙
+    ap (λ o. option_to_list (option_map (with_word word value) o) ++ others page held) (sym (entry_of-at page held place entry stands read))
+
+-- a page that no entry is of stays as it is when it is lowered
+lowered-absent : (page : ℕ) (held : List Held) → entry_of page held ≡ None → lowered page held ≡ held
+lowered-absent page [] none = refl
+lowered-absent page (x ∷ xs) none =
+    (elim (is_of page x) as (λ b. cond b (Some x) (entry_of page xs) ≡ None → cond b (for_reading x) x ∷ lowered page xs ≡ x ∷ xs) [
+      | true ↦ λ h. cc
+      | false ↦ λ h. ap (λ l. x ∷ l) (lowered-absent page xs h)
+    ]) none
+
+-- the right to read written at the page's place
+pub lowered-at : (page : ℕ) (held : List Held) (place : ℕ) (entry : Held) →
+    ArePagesDistinct held → slice_get held place ≡ Some entry → entry.page ≡ page → set held place (for_reading entry) ≡ lowered page held
+lowered-at page [] place entry distinct at is = cc
+lowered-at page (x ∷ xs) zero entry distinct at is =
+    let same : x ≡ entry = cc in
+    let here : x.page ≡ page = ap (λ (e : Held). e.page) same ∙ is in
+    let test : is_of page x ≡ true = is_of-same page x here in
+    let absent : entry_of page xs ≡ None = subst (λ q. entry_of q xs ≡ None) here distinct.0 in
+    rw (test, lowered-absent page xs absent) (ap (λ e. for_reading e ∷ xs) (sym same))
+lowered-at page (x ∷ xs) (suc place) entry distinct at is =
+    let rest : set xs place (for_reading entry) ≡ lowered page xs = lowered-at page xs place entry distinct.1 at is in
+    (elim (is_of page x) as (λ b. is_of page x ≡ b → x ∷ set xs place (for_reading entry) ≡ cond b (for_reading x) x ∷ lowered page xs) [
+      | true ↦ λ test.
+          let here : x.page ≡ page = eqb-true x.page page test in
+          absurd (found_at (is_of x.page) xs place entry at (is_of-same x.page entry (is ∙ sym here)) distinct.0)
+      | false ↦ λ _. ap (λ l. x ∷ l) rest
+    ]) refl
+
+-- a search for another page passes over what is not of it
+pub entry_of-others : (page q : ℕ) (held : List Held) → (q ≡ page → ⊥) → entry_of q (others page held) ≡ entry_of q held
+entry_of-others page q [] differ = refl
+entry_of-others page q (x ∷ xs) differ =
+    let rest : entry_of q (others page xs) ≡ entry_of q xs = entry_of-others page q xs differ in
+    (elim (is_of page x) as (λ b. is_of page x ≡ b → entry_of q (cond (not b) (x ∷ others page xs) (others page xs)) ≡ cond (is_of q x) (Some x) (entry_of q xs)) [
+      | true ↦ λ test.
+          let other : is_of q x ≡ false = ne_eqb x.page q (λ e. differ (sym e ∙ eqb-true x.page page test)) in
+          rw other rest
+      | false ↦ λ _. ap (λ l. cond (is_of q x) (Some x) l) rest
+    ]) refl
+
+-- no other is of the page
+pub entry_of-others_same : (page : ℕ) (held : List Held) → entry_of page (others page held) ≡ None
+entry_of-others_same page [] = refl
+entry_of-others_same page (x ∷ xs) =
+    let rest : entry_of page (others page xs) ≡ None = entry_of-others_same page xs in
+    (elim (is_of page x) as (λ b. is_of page x ≡ b → entry_of page (cond (not b) (x ∷ others page xs) (others page xs)) ≡ None) [
+      | true ↦ λ _. rest
+      | false ↦ λ test. rw test rest
+    ]) refl
+
+-- a page that was not held is none of the others
+pub entry_of-others_none : (page q : ℕ) (held : List Held) → entry_of q held ≡ None → entry_of q (others page held) ≡ None
+entry_of-others_none page q held none =
+    ⊎_elim
+    (λ (same : q ≡ page). subst (λ p. entry_of p (others page held) ≡ None) (sym same) (entry_of-others_same page held))
+    (λ (differ : q ≡ page → ⊥). entry_of-others page q held differ ∙ none)
+    (cases_eq q page)
+
+-- the others stay distinct
+pub distinct-others : (page : ℕ) (held : List Held) → ArePagesDistinct held → ArePagesDistinct (others page held)
+distinct-others page [] distinct = tt
+distinct-others page (x ∷ xs) distinct =
+    let rest : ArePagesDistinct (others page xs) = distinct-others page xs distinct.1 in
+    elim (is_of page x) as (λ b. ArePagesDistinct (cond (not b) (x ∷ others page xs) (others page xs))) [
+      | true ↦ rest
+      | false ↦ (entry_of-others_none page x.page xs distinct.0, rest)
+    ]
+
+-- an entry of the page in front of the others
+pub distinct-in_front : (page : ℕ) (held : List Held) (entry : Held) → entry.page ≡ page → ArePagesDistinct held →
+    ArePagesDistinct (entry ∷ others page held)
+distinct-in_front page held entry is distinct =
+    (subst (λ q. entry_of q (others page held) ≡ None) (sym is) (entry_of-others_same page held), distinct-others page held distinct)
+
+-- the page in front, whatever is done to its entry but for its page
+pub distinct-changed_front : (change : Held → Held) → ((entry : Held) → (change entry).page ≡ entry.page) →
+    (page : ℕ) (held : List Held) → ArePagesDistinct held →
+    ArePagesDistinct (option_to_list (option_map change (entry_of page held)) ++ others page held)
+distinct-changed_front change keeps page held distinct =
+    (elim (entry_of page held) as (λ o. entry_of page held ≡ o → ArePagesDistinct (option_to_list (option_map change o) ++ others page held)) [
+      | None ↦ λ _. distinct-others page held distinct
+      | Some entry ↦ λ e. distinct-in_front page held (change entry) (keeps entry ∙ entry_of-page page held entry e) distinct
+    ]) refl
+
+pub distinct-front_of : (page : ℕ) (held : List Held) → ArePagesDistinct held → ArePagesDistinct (front_of page held)
+distinct-front_of page held distinct =
+    (elim (entry_of page held) as (λ o. entry_of page held ≡ o → ArePagesDistinct (option_to_list o ++ others page held)) [
+      | None ↦ λ _. distinct-others page held distinct
+      | Some entry ↦ λ e. distinct-in_front page held entry (entry_of-page page held entry e) distinct
+    ]) refl
+
+pub distinct-written : (page word value : ℕ) (held : List Held) → ArePagesDistinct held → ArePagesDistinct (written page word value held)
+distinct-written page word value held distinct = distinct-changed_front (with_word word value) (λ _. refl) page held distinct
+
+-- lowering a page finds each page as before, with the right to read on that page
+pub entry_of-lowered : (page q : ℕ) (held : List Held) →
+    entry_of q (lowered page held) ≡ option_map (λ entry. cond (is_of page entry) (for_reading entry) entry) (entry_of q held)
+entry_of-lowered page q [] = refl
+entry_of-lowered page q (x ∷ xs) =
+    let rest = entry_of-lowered page q xs in
+    let same : is_of q (cond (is_of page x) (for_reading x) x) ≡ is_of q x =
+    elim (is_of page x) as (λ b. is_of q (cond b (for_reading x) x) ≡ is_of q x) [ true ↦ refl | false ↦ refl ] in
+    rw same
+    (elim (is_of q x) as (λ b.
+    cond b (Some (cond (is_of page x) (for_reading x) x)) (entry_of q (lowered page xs)) ≡
+    option_map (λ entry. cond (is_of page entry) (for_reading entry) entry) (cond b (Some x) (entry_of q xs))) [
+      | true ↦ refl
+      | false ↦ rest
+    ])
+
+pub distinct-lowered : (page : ℕ) (held : List Held) → ArePagesDistinct held → ArePagesDistinct (lowered page held)
+distinct-lowered page [] distinct = tt
+distinct-lowered page (x ∷ xs) distinct =
+    let change : Held → Held = λ entry. cond (is_of page entry) (for_reading entry) entry in
+    let same : (change x).page ≡ x.page = elim (is_of page x) as (λ b. (cond b (for_reading x) x).page ≡ x.page) [ true ↦ refl | false ↦ refl ] in
+    let absent : entry_of x.page (lowered page xs) ≡ None = entry_of-lowered page x.page xs ∙ ap (λ o. option_map change o) distinct.0 in
+    (subst (λ q. entry_of q (lowered page xs) ≡ None) (sym same) absent, distinct-lowered page xs distinct.1)
+
+-- the page and the others are at most all
+pub length-entry-others : (page : ℕ) (held : List Held) → length (option_to_list (entry_of page held)) + length (others page held) ≤ length held
+length-entry-others page [] = omega arith
+length-entry-others page (x ∷ xs) =
+    let rest = length-entry-others page xs in
+    let fewer : length (others page xs) ≤ length xs = omega (arith, rest) in
+    elim (is_of page x) as (λ b. length (option_to_list (cond b (Some x) (entry_of page xs))) + length (cond (not b) (x ∷ others page xs) (others page xs)) ≤ suc (length xs)) [
+      | true ↦ omega (arith, fewer)
+      | false ↦ omega (arith, rest)
+    ]
+
+-- the page whose place is known is found there
+pub entry_of-here : (page : ℕ) (held : List Held) (place : ℕ) (entry : Held) →
+    place < length held → entry ≡ get_or held place entry → entry.page ≡ page → entry_of page (drop place held) ≡ slice_get held place
+entry_of-here page held place entry within read is =
+    let at : slice_get held place ≡ Some entry = slice_get_read held (length held) place entry refl within read in
+    let test : is_of page entry ≡ true = is_of-same page entry is in
+    let cut : drop place held ≡ entry ∷ drop (place + 1) held = drop_more held place entry within ∙ ap (λ e. e ∷ drop (place + 1) held) (sym read) in
+    rw (cut, at, test) refl
+
+-- the entry at the page's place has the page's word
+pub word_of-at : (page word : ℕ) (held : List Held) (place : ℕ) (entry : Held) → StandsAt page held place → entry ≡ get_or held place entry →
+    word_of page word held ≡ slice_index entry.words word
+word_of-at page word held place entry stands read = rw (entry_of-at page held place entry stands read) refl
+
+-- the next of the pages from the back
+pub evicted_more : (held : List Held) (back : ℕ) (entry : Held) → back < length held → entry ≡ get_or held (length held - 1 - back) entry →
+    take (back + 1) (reverse (map (λ (e : Held). e.page) held)) ≡ take back (reverse (map (λ (e : Held). e.page) held)) ++ entry.page ∷ []
+evicted_more held back entry within read =
+    let pages : List ℕ = map (λ (e : Held). e.page) held in
+    let long : length pages ≡ length held = length-map held (λ (e : Held). e.page) in
+    let last : length held - 1 - back < length held = omega arith in
+    let here : get_or (reverse pages) back 0 ≡ entry.page =
+    get_or-reverse pages back 0 (omega arith) ∙ ap (λ n. get_or pages (n - 1 - back) 0) long ∙
+    get_or-map (λ (e : Held). e.page) held (length held - 1 - back) entry 0 last ∙ ap (λ (e : Held). e.page) (sym read) in
+    take_more (reverse pages) back 0 (omega (arith, length-reverse pages)) ∙ ap (λ p. take back (reverse pages) ++ p ∷ []) here
+
+-- the right to read written at the page's place, by what was read there
+pub lowered-stands : (page : ℕ) (held : List Held) (place : ℕ) (entry : Held) → ArePagesDistinct held → StandsAt page held place →
+    entry ≡ get_or held place entry → set held place (for_reading entry) ≡ lowered page held
+lowered-stands page held place entry distinct stands read =
+    lowered-at page held place entry distinct (slice_get_read held (length held) place entry refl stands.within read)
+    (entry_of-page page held entry (entry_of-at page held place entry stands read))

@@ -1,0 +1,5 @@
+pub mod ChangeLaws
+pub mod Entries
+pub mod HistoryLemmas
+pub mod ListPlaces
+pub mod SoundSteps

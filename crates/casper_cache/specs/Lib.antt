@@ -1,0 +1,4 @@
+pub mod Changes
+pub mod History
+pub mod Holding
+pub mod Own

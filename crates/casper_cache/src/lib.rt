@@ -1,0 +1,12 @@
+//! The pages that one client holds, in order of use, and its calls that were not yet recorded.
+#![tactic(auto)]
+
+mod cache;
+mod held;
+mod laws;
+mod pages;
+mod places;
+
+pub use cache::Cache;
+pub use laws::{change_laws, history_law};
+pub use pages::Pages;
