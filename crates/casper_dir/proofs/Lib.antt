@@ -1,0 +1,3 @@
+pub mod EqualRights
+pub mod HoldersLemmas
+pub mod RightsLemmas
