@@ -1,0 +1,32 @@
+use Rattle.std.proofs.Common.{◌<◌, length, ap, arith, length-append}
+use Rattle.casper_disk.proofs.RecordLemmas.{none_marked, synced_loose, unsynced_loose, synced_elapses, unsynced_elapses, refused_elapses}
+use Rattle.casper_disk.proofs.mem_disk.MemDiskDisk.sync.Goals as goal
+
+pub returns-in_default-clause-images : goal.returns-in_default-clause-images
+returns-in_default-clause-images c =
+    rw (← c.self.view_is) (refused_elapses c.self.inside.steps.items c.self.inside.blocks.items c.self.inside.marks.items)
+
+pub returns-then-fails-clause-unsettled : goal.returns-then-fails-clause-unsettled
+returns-then-fails-clause-unsettled c =
+    rw (← c.self.view_is)
+    (unsynced_loose c.self.inside.steps.items c.push_reserved.new.self.items c.self.inside.marks.items c.push_reserved.ensures.items)
+
+pub returns-then-fails-clause-images : goal.returns-then-fails-clause-images
+returns-then-fails-clause-images c =
+    let some : 0 < length c.self.inside.spare.items = omega (arith, simp length-append at (ap length c.in-Some.ensures.items)) in
+    rw (← c.self.view_is)
+    (unsynced_elapses c.self.inside.steps.items c.push_reserved.new.self.items c.self.inside.blocks.items c.self.inside.marks.items c.push_reserved.ensures.items
+    (none_marked c.self.inside.marks.items (length c.self.inside.blocks.items) (c.self.invariant.unmarked some)))
+
+pub returns-clause-settled : goal.returns-clause-settled
+returns-clause-settled c =
+    let some : 0 < length c.self.inside.spare.items = omega (arith, simp length-append at (ap length c.in-Some.ensures.items)) in
+    synced_loose c.self.inside.steps.items c.push_reserved-2.new.self.items c.self.inside.marks.items c.push_reserved-2.ensures.items
+    (none_marked c.self.inside.marks.items (length c.self.inside.blocks.items) (c.self.invariant.unmarked some))
+
+pub returns-clause-images : goal.returns-clause-images
+returns-clause-images c =
+    let some : 0 < length c.self.inside.spare.items = omega (arith, simp length-append at (ap length c.in-Some.ensures.items)) in
+    rw (← c.self.view_is)
+    (synced_elapses c.self.inside.steps.items c.push_reserved-2.new.self.items c.self.inside.blocks.items c.self.inside.marks.items c.push_reserved-2.ensures.items
+    (none_marked c.self.inside.marks.items (length c.self.inside.blocks.items) (c.self.invariant.unmarked some)))

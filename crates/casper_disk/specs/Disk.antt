@@ -1,0 +1,36 @@
+use Rattle.std.specs.Prelude.{IsTrue, ◌≡◌, ◌⊎◌, ◌==◌, ◌||◌, ℕ, ◌≤◌, Bool, false, List, [], length, slice_index_or}
+
+-- the block at a place, a list of its bytes
+abbrev pub block_at : List (List ℕ) → ℕ → List ℕ
+block_at blocks at = slice_index_or blocks at []
+
+-- no block is loose
+abbrev pub none_loose : ℕ → Bool
+none_loose at = false
+
+-- the loose blocks and one more
+abbrev pub with_loose : ℕ → (ℕ → Bool) → ℕ → Bool
+with_loose block loose at = at == block || loose at
+
+-- the blocks are the same but where they may differ
+pub record AgreesBut (may_differ : ℕ → Bool) (blocks image : List (List ℕ)) : Type 0 where
+  pub count : length image ≡ length blocks
+  pub same : (at : ℕ) → may_differ at ≡ false → block_at image at ≡ block_at blocks at
+
+-- A call takes time: to the images since an earlier moment it adds only those since its own start, and these agree with the
+-- blocks at its start but where they may differ.
+pub record Elapses (before now : ℕ) (past since : ℕ → List (List ℕ) → Type 0) (may_differ : ℕ → Bool) (blocks : List (List ℕ)) : Type 0 where
+  pub later : before ≤ now
+  pub only : (moment : ℕ) (image : List (List ℕ)) → moment ≤ before → since moment image → past moment image ⊎ since before image
+  pub keeps : (moment : ℕ) (image : List (List ℕ)) → moment ≤ before → past moment image → since moment image
+  pub agrees : (image : List (List ℕ)) → since before image → AgreesBut may_differ blocks image
+
+-- a call leaves the moment and the images since any moment
+pub record Stands (before now : ℕ) (past since : ℕ → List (List ℕ) → Type 0) : Type 0 where
+  pub moment : now ≡ before
+  pub only : (moment : ℕ) (image : List (List ℕ)) → since moment image → past moment image
+  pub keeps : (moment : ℕ) (image : List (List ℕ)) → past moment image → since moment image
+
+-- what tells nothing does not tell
+pub untold : IsTrue false → ⊥
+untold told = cc

@@ -1,0 +1,10 @@
+pub mod Disk
+pub mod File
+pub mod Plan
+pub mod MemDisk
+pub mod Record
+pub mod Sound
+pub mod Place
+pub mod Slots
+pub mod Stopped
+pub mod StepKinds

@@ -1,0 +1,101 @@
+ghost use Rattle.std.specs.Prelude.{◌≡◌, ◌==◌, ℕ, ◌<◌, ◌≤◌, Bool, false, List, length, slice_set, IsTrue, OnOk, OnErr};
+ghost use Rattle.casper_words.specs.Count.{Rose};
+ghost use Rattle.casper_disk.specs.Disk.{block_at, none_loose, with_loose, AgreesBut, Elapses, Stands};
+
+use casper_words::Block;
+
+/// The answer of a disk that did not carry out a call.
+#[derive(Clone, Copy, Debug, PartialEq, Eq)]
+pub enum DiskFault {
+    Failed,
+}
+
+/// A disk: a number of blocks of 4,096 bytes, which are read and written whole.
+///
+/// A block is loose from the start of a write of it until a sync answers Ok. A stop, at any moment and within a call too,
+/// leaves an image: the content, but with any bytes in the blocks that are loose. A disk may tell its content, its loose
+/// blocks and its images, or tell nothing of them. It counts its faults, up to `u64::MAX`.
+pub trait Disk {
+    // Whether disks of this type tell their content, their loose blocks and their images.
+    ghost tells: { Bool };
+
+    // The number of blocks.
+    ghost size: { Self → ℕ };
+
+    // The blocks in order.
+    ghost content: { Self → List (List ℕ) };
+
+    // Whether a block is loose.
+    ghost loose: { Self → ℕ → Bool };
+
+    // The images that a stop now may leave.
+    ghost images_now: { Self → List (List ℕ) → Type 0 };
+
+    // The clock.
+    ghost moment: { Self → ℕ };
+
+    // The images that a stop at any moment since that one might have left.
+    ghost images_since: { Self → ℕ → List (List ℕ) → Type 0 };
+
+    // How many calls failed.
+    ghost faults: { Self → ℕ };
+
+    /// The number of blocks.
+    fn blocks(&self) -> u32
+        ensures { result ≡ size self.now };
+
+    /// Reads a block. It changes nothing.
+    fn read(&mut self, at: u32, into: &mut Block) -> Result<(), DiskFault>
+        requires { at < size self.old }
+        ensures block { IsTrue tells → OnOk result (into.new ≡ block_at (content self.old) at) }
+        ensures size { size self.new ≡ size self.old }
+        ensures content { IsTrue tells → content self.new ≡ content self.old }
+        ensures loose { IsTrue tells → loose self.new ≡ loose self.old }
+        ensures images { IsTrue tells →
+            Stands (moment self.old) (moment self.new) (images_since self.old) (images_since self.new) }
+        ensures counted { OnErr result (Rose (faults self.old) (faults self.new)) }
+        ensures never_falls { faults self.old ≤ faults self.new };
+
+    /// Writes a block, which is then loose. After a fault its content is not known.
+    fn write(&mut self, at: u32, from: &Block) -> Result<(), DiskFault>
+        requires { at < size self.old }
+        ensures size { size self.new ≡ size self.old }
+        ensures written { IsTrue tells → OnOk result (content self.new ≡ slice_set (content self.old) at from.now) }
+        ensures others { IsTrue tells → AgreesBut (λ other. other == at) (content self.old) (content self.new) }
+        ensures loose { IsTrue tells → loose self.new ≡ with_loose at (loose self.old) }
+        ensures images { IsTrue tells →
+            Elapses (moment self.old) (moment self.new) (images_since self.old) (images_since self.new)
+            (with_loose at (loose self.old)) (content self.old) }
+        ensures counted { OnErr result (Rose (faults self.old) (faults self.new)) }
+        ensures never_falls { faults self.old ≤ faults self.new };
+
+    /// Settles what was written. After a fault each block that was loose still is.
+    fn sync(&mut self) -> Result<(), DiskFault>
+        ensures size { size self.new ≡ size self.old }
+        ensures content { IsTrue tells → content self.new ≡ content self.old }
+        ensures settled { IsTrue tells → OnOk result (loose self.new ≡ none_loose) }
+        ensures unsettled { IsTrue tells → OnErr result (loose self.new ≡ loose self.old) }
+        ensures images { IsTrue tells →
+            Elapses (moment self.old) (moment self.new) (images_since self.old) (images_since self.new)
+            (loose self.old) (content self.old) }
+        ensures counted { OnErr result (Rose (faults self.old) (faults self.new)) }
+        ensures never_falls { faults self.old ≤ faults self.new };
+
+    /// There are as many blocks as the content has.
+    ghost sized: { (disk : Self) → IsTrue tells → size disk ≡ length (content disk) };
+
+    /// The content is one of the images.
+    ghost content_is_image: { (disk : Self) → IsTrue tells → images_now disk (content disk) };
+
+    /// An image differs from the content in loose blocks alone.
+    ghost images_agree: { (disk : Self) (image : List (List ℕ)) → IsTrue tells → images_now disk image →
+        AgreesBut (loose disk) (content disk) image };
+
+    /// The images of now are among those since each earlier moment.
+    ghost now_counts: { (disk : Self) (past : ℕ) (image : List (List ℕ)) → IsTrue tells → past ≤ moment disk →
+        images_now disk image → images_since disk past image };
+
+    /// Since now there are only the images of now.
+    ghost only_now: { (disk : Self) (image : List (List ℕ)) → IsTrue tells → images_since disk (moment disk) image →
+        images_now disk image };
+}

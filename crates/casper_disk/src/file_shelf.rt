@@ -1,0 +1,156 @@
+ghost use Rattle.std.specs.Prelude.{◌≡◌, ◌≤◌, ℕ, Bool, false};
+ghost use Rattle.casper_words.specs.Count.{Rose};
+ghost use Rattle.casper_disk.specs.Disk.{untold};
+ghost use Rattle.casper_disk.specs.Place.{Missing};
+
+use crate::{FileDisk, Shelf, ShelfFault};
+use casper_words::Block;
+use std::alloc::Global;
+use std::fs::{File, OpenOptions};
+use std::io::{self, ErrorKind};
+use std::marker::Model;
+use std::rt::Files;
+
+/// A shelf over the files of the system, by their paths. It tells nothing of them. Contracts see the count of the calls that
+/// failed.
+#[derive(Drop)]
+pub struct FileShelf<R> {
+    rt: R,
+    faults: u64,
+}
+
+impl<R> Model for FileShelf<R> {
+    ghost use Rattle.std.specs.Prelude.{ℕ};
+
+    ghost Value = { ℕ };
+
+    ghost view = { λ own. own.faults };
+}
+
+/// A name as a path.
+fn path_of(name: &[u8]) -> io::Result<&str> {
+    match str::from_utf8(name) {
+        Ok(path) => Ok(path),
+        Err(_error) => Err(ErrorKind::InvalidInput.into()),
+    }
+}
+
+/// The disk over the file at a path.
+fn open_file<R: Files<File = File>>(rt: &R, name: &[u8]) -> io::Result<FileDisk> {
+    let path = path_of(name)?;
+    let file = OpenOptions::new().read(true).write(true).open(rt, path)?;
+    FileDisk::new(file)
+}
+
+/// A disk of zero blocks over a new file at a path.
+fn make_file<R: Files<File = File>>(rt: &R, name: &[u8], blocks: u32) -> io::Result<FileDisk> {
+    let path = path_of(name)?;
+    let file = File::create_new(rt, path)?;
+    file.set_len(u64::from(blocks) * u64::from(Block::BYTES))?;
+    FileDisk::new(file)
+}
+
+impl<R: Files<File = File>> FileShelf<R> {
+    /// A shelf over the files that the handle reaches, none of whose calls has failed.
+    pub fn new(rt: R) -> FileShelf<R>
+        ensures { result ≡ 0 }
+    {
+        FileShelf { rt, faults: 0 }
+    }
+
+    /// Counts a fault, and gives its answer.
+    fn fault(&mut self) -> ShelfFault
+        ensures failed { result ≡ ShelfFault.Failed }
+        ensures counted { Rose self.old self.new }
+        ensures never_falls { self.old ≤ self.new }
+    {
+        self.faults = self.faults.saturating_add(1);
+        ShelfFault::Failed
+    }
+}
+
+impl<R: Files<File = File>> Shelf for FileShelf<R> {
+    type Disk = FileDisk;
+
+    ghost tells = { false };
+
+    ghost place = { λ _ _. Missing };
+
+    ghost faults = { λ faults. faults };
+
+    fn open(&mut self, _alloc: Global, name: &[u8]) -> Result<FileDisk, ShelfFault> {
+        match open_file(&self.rt, name) {
+            Ok(disk) => Ok(disk),
+            Err(error) if error.kind() == ErrorKind::NotFound => Err(ShelfFault::NoSuch),
+            Err(_error) => Err(self.fault()),
+        }
+    }
+
+    fn make(&mut self, _alloc: Global, name: &[u8], blocks: u32) -> Result<FileDisk, ShelfFault> {
+        match make_file(&self.rt, name, blocks) {
+            Ok(disk) => Ok(disk),
+            Err(error) if error.kind() == ErrorKind::AlreadyExists => Err(ShelfFault::Exists),
+            Err(_error) => Err(self.fault()),
+        }
+    }
+
+    fn close(&mut self, _name: &[u8], _disk: FileDisk) {}
+
+    ghost disks_tell = { λ told. absurd (untold told) };
+}
+
+#[cfg(test)]
+mod tests {
+    use super::*;
+    use crate::{Disk, DiskFault};
+    use std::fs;
+    use std::test::Fail;
+
+    #[test]
+    fn keeps_files(rt: HostRuntime) -> Result<(), Fail> {
+        let path = "casper_disk_shelf_test";
+        let name = path.as_bytes();
+        let _old = fs::remove_file(&rt, path);
+        let mut shelf = FileShelf::new(rt.clone()?);
+        assert!(rt; matches!(shelf.open(rt.alloc(), name), Err(ShelfFault::NoSuch)));
+        let mut block = Block::zero(rt.alloc())?;
+        block.put(4095, &[7]);
+        match shelf.make(rt.alloc(), name, 2) {
+            Ok(mut disk) => {
+                assert!(rt; disk.blocks() == 2);
+                assert_eq!(rt; disk.write(1, &block), Ok(()));
+                assert_eq!(rt; disk.sync(), Ok(()));
+                shelf.close(name, disk);
+            }
+            Err(_fault) => assert!(rt; false),
+        }
+        assert!(rt; matches!(shelf.make(rt.alloc(), name, 2), Err(ShelfFault::Exists)));
+        let mut back = Block::zero(rt.alloc())?;
+        match shelf.open(rt.alloc(), name) {
+            Ok(mut disk) => {
+                assert!(rt; disk.blocks() == 2);
+                assert_eq!(rt; disk.read(0, &mut back), Ok(()));
+                assert_eq!(rt; back.bytes()[4095], 0);
+                assert_eq!(rt; disk.read(1, &mut back), Ok(()));
+            }
+            Err(_fault) => assert!(rt; false),
+        }
+        assert_eq!(rt; back.bytes()[4095], 7);
+        fs::remove_file(&rt, path)?;
+        Ok(())
+    }
+
+    #[test]
+    fn a_file_that_was_cut_fails(rt: HostRuntime) -> Result<(), Fail> {
+        let path = "casper_disk_file_test";
+        let file = fs::create(&rt, path)?;
+        file.set_len(8191)?;
+        let mut disk = FileDisk::new(fs::open(&rt, path)?)?;
+        file.set_len(0)?;
+        let mut block = Block::zero(rt.alloc())?;
+        assert!(rt; disk.blocks() == 1);
+        assert_eq!(rt; disk.read(0, &mut block), Err(DiskFault::Failed));
+        fs::remove_file(&rt, path)?;
+        Ok(())
+    }
+}

@@ -1,0 +1,24 @@
+//! Disks of blocks, what a stop leaves of them, and shelves on which they stand by name.
+#![tactic(auto)]
+
+mod disk;
+mod fail;
+mod file_disk;
+mod file_shelf;
+mod mem_disk;
+mod mem_shelf;
+mod plan;
+mod shelf;
+mod slot;
+mod slots;
+mod step;
+mod tear;
+mod undo;
+
+pub use disk::{Disk, DiskFault};
+pub use fail::{Fail, Kind, Pick};
+pub use file_disk::FileDisk;
+pub use file_shelf::FileShelf;
+pub use mem_disk::MemDisk;
+pub use mem_shelf::MemShelf;
+pub use shelf::{Shelf, ShelfFault};

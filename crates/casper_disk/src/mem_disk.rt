@@ -1,0 +1,372 @@
+ghost use Rattle.std.specs.Prelude.{◌≡◌, ◌⊎◌, ◌||◌, ◌==◌, ◌+◌, ◌-◌, ◌<◌, ◌≤◌, ◌^◌, ℕ, Bool, true, false, List, [], length, replicate, slice_set, is_err, IfOk, OnOk, OnErr};
+ghost use Rattle.std.proofs.Common.{inl, refl};
+ghost use Rattle.casper_words.specs.Count.{Rose};
+ghost use Rattle.casper_disk.specs.declared.fail.Kind.TheVariants as kind;
+ghost use Rattle.casper_disk.specs.Disk.{block_at, none_loose, with_loose, AgreesBut, Elapses, Stands};
+ghost use Rattle.casper_disk.specs.Record.{only_left_now, agrees_itself, content_at};
+ghost use Rattle.casper_disk.specs.Stopped.{settled_before, stop_moment};
+ghost use Rattle.casper_disk.specs.Plan.{count_of, armed_with, fails_next};
+ghost use Rattle.casper_disk.specs.MemDisk.{held_loose, held_since};
+
+use crate::plan::Plan;
+use crate::step::Step;
+use crate::tear::{tear_marked, tear_written};
+use crate::undo::{settled_before, undo};
+use crate::{Disk, DiskFault, Fail, Kind, Pick};
+use casper_words::{Block, Memory};
+use std::alloc::Global;
+use std::marker::Model;
+use std::mem;
+
+/// A disk in memory, which tells its content. It keeps a record of its writes and syncs, with the old contents, for which the
+/// room is taken beforehand: a write or a sync past that room fails. Calls that are to fail are given by their numbers.
+#[derive(Drop)]
+pub struct MemDisk {
+    alloc: Global,
+    blocks: Vec<Block>,
+    steps: Vec<Step>,
+    armed: usize,
+    spare: Vec<Block>,
+    marks: Vec<bool>,
+    plan: Plan,
+}
+
+impl Model for MemDisk {
+    ghost use Rattle.std.specs.Prelude.{◌≡◌, ◌+◌, ◌<◌, ◌≤◌, length, vec_capacity};
+    ghost use Rattle.casper_disk.specs.MemDisk.{Held};
+    ghost use Rattle.casper_disk.specs.Sound.{IsSound};
+
+    ghost Value = { Held };
+
+    ghost view = { λ own. record {
+      content = own.blocks.items;
+      steps = own.steps.items;
+      armed = own.armed;
+      room = length own.spare.items;
+      marks = own.marks.items;
+      plan = own.plan;
+    } };
+
+    ghost invariant = { λ own. IsSound own.blocks.items own.steps.items own.armed (length own.spare.items)
+        (vec_capacity own.steps) own.marks.items };
+}
+
+/// As many zero blocks.
+fn zero_blocks(alloc: Global, count: usize) -> Result<Vec<Block>, Memory>
+    ensures { IfOk result (λ blocks. blocks.items ≡ replicate count (replicate 4096 0)) }
+{
+    let mut blocks = Vec::with_capacity(alloc, count)?;
+    for _ in 0..count {
+        blocks.push(Block::zero(alloc)?)?;
+    }
+    Ok(blocks)
+}
+
+/// The same blocks again.
+fn copies(alloc: Global, blocks: &[Block]) -> Result<Vec<Block>, Memory>
+    ensures { IfOk result (λ again. again.items ≡ blocks.now) }
+{
+    let mut again = Vec::with_capacity(alloc, blocks.len())?;
+    for block in blocks {
+        let mut copy = Block::zero(alloc)?;
+        copy.copy_from(block);
+        again.push(copy)?;
+    }
+    Ok(again)
+}
+
+/// A disk of these blocks, none of them loose, with room for as many writes and syncs.
+fn holding(alloc: Global, blocks: Vec<Block>, calls: usize) -> Result<MemDisk, Memory>
+    requires { length blocks.items < 2 ^ 32 }
+    ensures content { IfOk result (λ disk. disk.content ≡ blocks.items) }
+    ensures steps { IfOk result (λ disk. disk.steps ≡ []) }
+    ensures armed { IfOk result (λ disk. disk.armed ≡ 0) }
+    ensures room { IfOk result (λ disk. disk.room ≡ calls) }
+    ensures marks { IfOk result (λ disk. disk.marks ≡ replicate (length blocks.items) false) }
+    ensures loose { IfOk result (λ disk. held_loose disk ≡ none_loose) }
+    ensures plan { IfOk result (λ disk. disk.plan ≡ record { fails = []; reads = 0; writes = 0; syncs = 0; faults = 0 }) }
+{
+    let spare = zero_blocks(alloc, calls)?;
+    let steps = Vec::with_capacity(alloc, calls)?;
+    let marks = vec![in alloc; false; blocks.len()]?;
+    Ok(MemDisk {
+        alloc,
+        blocks,
+        steps,
+        armed: 0,
+        spare,
+        marks,
+        plan: Plan::new(alloc),
+    })
+}
+
+impl MemDisk {
+    /// A disk of as many zero blocks, none of them loose, with room for `calls` writes and syncs.
+    pub fn new(alloc: Global, blocks: u32, calls: u32) -> Result<MemDisk, Memory>
+        ensures content { IfOk result (λ disk. disk.content ≡ replicate blocks (replicate 4096 0)) }
+        ensures steps { IfOk result (λ disk. disk.steps ≡ []) }
+        ensures armed { IfOk result (λ disk. disk.armed ≡ 0) }
+        ensures room { IfOk result (λ disk. disk.room ≡ calls) }
+        ensures marks { IfOk result (λ disk. disk.marks ≡ replicate blocks false) }
+        ensures loose { IfOk result (λ disk. held_loose disk ≡ none_loose) }
+        ensures plan { IfOk result (λ disk. disk.plan ≡ record { fails = []; reads = 0; writes = 0; syncs = 0; faults = 0 }) }
+    {
+        let contents = zero_blocks(alloc, blocks as usize)?;
+        holding(alloc, contents, calls as usize)
+    }
+
+    /// Begins a new record, with room for `calls` writes and syncs. From then on the calls of each kind are counted from 1, and
+    /// the listed ones fail. The content and the loose blocks stay. After Memory nothing has changed.
+    pub fn arm(&mut self, fails: &[Fail], calls: u32) -> Result<(), Memory>
+        ensures content { self.new.content ≡ self.old.content }
+        ensures loose { held_loose self.new ≡ held_loose self.old }
+        ensures plan { OnOk result (self.new.plan ≡ armed_with fails.now self.old.plan) }
+        ensures room { OnOk result (self.new.room ≡ calls) }
+        ensures newly { OnOk result (self.new.armed ≡ length self.new.steps) }
+        ensures clock { length self.old.steps ≤ length self.new.steps }
+        ensures err { OnErr result (self.new ≡ self.old) }
+    {
+        let spare = zero_blocks(self.alloc, calls as usize)?;
+        let unmarked = vec![in self.alloc; false; self.blocks.len()]?;
+        self.steps.reserve(calls as usize + 1)?;
+        self.plan.arm(self.alloc, fails)?;
+        self.spare = spare;
+        let marks = mem::replace(&mut self.marks, unmarked);
+        self.steps.push_reserved(Step::Missed { marks });
+        self.armed = self.steps.len();
+        Ok(())
+    }
+
+    /// The disk as a stop within a call may leave it, with the room of this disk's last arming. The writes and syncs are counted
+    /// from 1 since then, and one more than their number stands for the moment after the last. A loose block has the bytes that
+    /// the pick says, and each other block its content; no block is loose any more.
+    pub fn stopped(&self, alloc: Global, call: u64, pick: Pick) -> Result<MemDisk, Memory>
+        requires some { 1 ≤ call }
+        requires within { call ≤ self.now.plan.writes + self.now.plan.syncs + 1 }
+        ensures written { pick ≡ Pick.New → IfOk result (λ disk. disk.content ≡ content_at self.now.steps self.now.content (stop_moment self.now call)) }
+        ensures before { pick ≡ Pick.Old → IfOk result (λ disk. disk.content
+            ≡ content_at self.now.steps self.now.content (settled_before self.now.steps (stop_moment self.now call))) }
+        ensures steps { IfOk result (λ disk. disk.steps ≡ []) }
+        ensures loose { IfOk result (λ disk. held_loose disk ≡ none_loose) }
+        ensures room { IfOk result (λ disk. disk.room ≡ length self.now.steps - self.now.armed + self.now.room) }
+    {
+        let moment = self.moment(call);
+        let settled = settled_before(&self.steps, moment);
+        let mut blocks = copies(alloc, self.blocks.as_slice())?;
+        match pick {
+            Pick::Old => undo(&self.steps, settled, &mut blocks),
+            Pick::New => undo(&self.steps, moment, &mut blocks),
+            Pick::Torn(byte) => {
+                undo(&self.steps, moment, &mut blocks);
+                tear_written(&self.steps[settled..moment], byte, &mut blocks);
+                if call > (self.steps.len() - self.armed) as u64 {
+                    tear_marked(&self.marks, byte, &mut blocks);
+                }
+            }
+        }
+        let room = (self.steps.len() - self.armed).saturating_add(self.spare.len());
+        holding(alloc, blocks, room)
+    }
+
+    /// The moment of a stop within a call.
+    fn moment(&self, call: u64) -> usize
+        requires { 1 ≤ call }
+        ensures moment { result ≡ stop_moment self.now call }
+        ensures within { result ≤ length self.now.steps }
+    {
+        if call > (self.steps.len() - self.armed) as u64 {
+            return self.steps.len();
+        }
+        let at = self.armed + call as usize - 1;
+        let step = &self.steps[at];
+        if step.is_written() { at + 1 } else { at }
+    }
+
+    /// How many calls of the kind there were since the disk was last armed, or made.
+    pub fn count(&self, kind: Kind) -> u64
+        ensures { result ≡ count_of self.now.plan kind }
+    {
+        self.plan.count(kind)
+    }
+}
+
+impl Disk for MemDisk {
+    ghost tells = { true };
+
+    ghost size = { λ disk. length disk.content };
+
+    ghost content = { λ disk. disk.content };
+
+    ghost loose = { held_loose };
+
+    ghost images_now = { λ disk. AgreesBut (held_loose disk) disk.content };
+
+    ghost moment = { λ disk. length disk.steps };
+
+    ghost images_since = { held_since };
+
+    ghost faults = { λ disk. disk.plan.faults };
+
+    fn blocks(&self) -> u32 {
+        self.blocks.len() as u32
+    }
+
+    /// Fails exactly where this call is one of those that are to fail.
+    fn read(&mut self, at: u32, into: &mut Block) -> Result<(), DiskFault>
+        requires { at < length self.old.content }
+        ensures fails { is_err result ≡ fails_next self.old.plan kind.Read }
+        ensures block { OnOk result (into.new ≡ block_at self.old.content at) }
+        ensures size { length self.new.content ≡ length self.old.content }
+        ensures content { self.new.content ≡ self.old.content }
+        ensures loose { held_loose self.new ≡ held_loose self.old }
+        ensures images { Stands (length self.old.steps) (length self.new.steps) (held_since self.old) (held_since self.new) }
+        ensures counted { OnErr result (Rose self.old.plan.faults self.new.plan.faults) }
+        ensures never_falls { self.old.plan.faults ≤ self.new.plan.faults }
+    {
+        let fails = self.plan.fails_next(Kind::Read);
+        self.plan.count_call(Kind::Read);
+        if fails {
+            return Err(self.plan.fault());
+        }
+        into.copy_from(&self.blocks[at as usize]);
+        Ok(())
+    }
+
+    /// Fails exactly where this call is one of those that are to fail, or no room is left.
+    fn write(&mut self, at: u32, from: &Block) -> Result<(), DiskFault>
+        requires { at < length self.old.content }
+        ensures fails { is_err result ≡ (fails_next self.old.plan kind.Write || self.old.room == 0) }
+        ensures size { length self.new.content ≡ length self.old.content }
+        ensures written { OnOk result (self.new.content ≡ slice_set self.old.content at from.now) }
+        ensures others { AgreesBut (λ other. other == at) self.old.content self.new.content }
+        ensures loose { held_loose self.new ≡ with_loose at (held_loose self.old) }
+        ensures images { Elapses (length self.old.steps) (length self.new.steps) (held_since self.old) (held_since self.new)
+            (with_loose at (held_loose self.old)) self.old.content }
+        ensures counted { OnErr result (Rose self.old.plan.faults self.new.plan.faults) }
+        ensures never_falls { self.old.plan.faults ≤ self.new.plan.faults }
+    {
+        let fails = self.plan.fails_next(Kind::Write);
+        self.plan.count_call(Kind::Write);
+        let Some(mut was) = self.spare.pop() else {
+            self.marks[at as usize] = true;
+            return Err(self.plan.fault());
+        };
+        let block = &mut self.blocks[at as usize];
+        was.copy_from(block);
+        block.copy_from(from);
+        self.steps.push_reserved(Step::Wrote { at, was });
+        self.plan.answer(fails)
+    }
+
+    /// Fails exactly where this call is one of those that are to fail, or no room is left.
+    fn sync(&mut self) -> Result<(), DiskFault>
+        ensures fails { is_err result ≡ (fails_next self.old.plan kind.Sync || self.old.room == 0) }
+        ensures size { length self.new.content ≡ length self.old.content }
+        ensures content { self.new.content ≡ self.old.content }
+        ensures settled { OnOk result (held_loose self.new ≡ none_loose) }
+        ensures unsettled { OnErr result (held_loose self.new ≡ held_loose self.old) }
+        ensures images { Elapses (length self.old.steps) (length self.new.steps) (held_since self.old) (held_since self.new)
+            (held_loose self.old) self.old.content }
+        ensures counted { OnErr result (Rose self.old.plan.faults self.new.plan.faults) }
+        ensures never_falls { self.old.plan.faults ≤ self.new.plan.faults }
+    {
+        let fails = self.plan.fails_next(Kind::Sync);
+        self.plan.count_call(Kind::Sync);
+        let Some(_place) = self.spare.pop() else {
+            return Err(self.plan.fault());
+        };
+        if fails {
+            self.steps.push_reserved(Step::Unsynced);
+            return Err(self.plan.fault());
+        }
+        self.steps.push_reserved(Step::Synced);
+        Ok(())
+    }
+
+    ghost sized = { λ disk told. refl };
+
+    ghost content_is_image = { λ disk told. agrees_itself (held_loose disk) disk.content };
+
+    ghost images_agree = { λ disk image told now. now };
+
+    ghost now_counts = { λ disk past image told early now. inl now };
+
+    ghost only_now = { λ disk image told left. only_left_now disk.steps disk.content (held_loose disk) image left };
+}
+
+#[cfg(test)]
+mod tests {
+    use super::*;
+    use std::process::Abort;
+    use std::test;
+
+    #[test]
+    fn listed_calls_fail(rt: HostRuntime) -> Result<(), test::Fail> {
+        let mut disk = MemDisk::new(rt.alloc(), 2, 4)?;
+        let read = Fail {
+            kind: Kind::Read,
+            number: 2,
+        };
+        let write = Fail {
+            kind: Kind::Write,
+            number: 1,
+        };
+        let sync = Fail {
+            kind: Kind::Sync,
+            number: 2,
+        };
+        disk.arm(&[read, write, sync], 4)?;
+        let mut block = Block::zero(rt.alloc())?;
+        assert!(rt; disk.blocks() == 2);
+        assert_eq!(rt; disk.read(1, &mut block), Ok(()));
+        assert_eq!(rt; disk.read(1, &mut block), Err(DiskFault::Failed));
+        assert_eq!(rt; disk.write(1, &block), Err(DiskFault::Failed));
+        assert_eq!(rt; disk.write(1, &block), Ok(()));
+        assert_eq!(rt; disk.sync(), Ok(()));
+        assert_eq!(rt; disk.sync(), Err(DiskFault::Failed));
+        assert_eq!(rt; disk.sync(), Err(DiskFault::Failed), "past the room");
+        assert_eq!(rt; disk.count(Kind::Sync), 3);
+        Ok(())
+    }
+
+    /// Writes this byte at both ends of the first block.
+    fn mark(rt: &impl Abort, disk: &mut MemDisk, block: &mut Block, byte: u8) {
+        assert!(rt; disk.blocks() > 0);
+        block.put(0, &[byte]);
+        block.put(4095, &[byte]);
+        assert_eq!(rt; disk.write(0, block), Ok(()));
+    }
+
+    #[test]
+    fn stops(rt: HostRuntime) -> Result<(), test::Fail> {
+        let mut disk = MemDisk::new(rt.alloc(), 1, 8)?;
+        let mut block = Block::zero(rt.alloc())?;
+        mark(&rt, &mut disk, &mut block, 1);
+        mark(&rt, &mut disk, &mut block, 2);
+        assert_eq!(rt; disk.sync(), Ok(()));
+        mark(&rt, &mut disk, &mut block, 3);
+        let most = disk
+            .count(Kind::Write)
+            .saturating_add(disk.count(Kind::Sync));
+        let table = [
+            (1, Pick::Old, [0, 0]),
+            (1, Pick::New, [1, 1]),
+            (1, Pick::Torn(9), [1, 9]),
+            (2, Pick::Old, [0, 0]),
+            (2, Pick::New, [2, 2]),
+            (3, Pick::Torn(9), [2, 9]),
+            (4, Pick::Old, [2, 2]),
+            (4, Pick::Torn(9), [3, 9]),
+            (5, Pick::New, [3, 3]),
+        ];
+        for (call, pick, want) in table {
+            assert!(rt; 1 <= call && call <= most.saturating_add(1));
+            let mut left = disk.stopped(rt.alloc(), call, pick)?;
+            assert!(rt; left.blocks() > 0);
+            assert_eq!(rt; left.read(0, &mut block), Ok(()));
+            let ends = [block.bytes()[0], block.bytes()[4095]];
+            assert_eq!(rt; ends, want, "at {call}");
+        }
+        Ok(())
+    }
+}
