@@ -1,0 +1,4 @@
+pub mod BlockLemmas
+pub mod RefusalLemmas
+pub mod OpeningLemmas
+pub mod FormatLemmas

@@ -1,0 +1,24 @@
+ghost use Rattle.std.specs.Prelude.{◌≡◌};
+ghost use Rattle.casper_root.specs.Format.{header_block};
+
+use crate::tables::{clear, header_rec};
+use casper_words::Block;
+
+/// The sizes of a store.
+#[derive(Clone, Copy, Debug, PartialEq, Eq)]
+pub struct Header {
+    pub pages: u32,
+    pub frames: u32,
+}
+
+impl Header {
+    /// Fills a block with the header of a store.
+    pub fn to_block(&self, into: &mut Block)
+        ensures { into.new ≡ header_block self.now }
+    {
+        clear(into);
+        let name = u64::from_le_bytes(*b"CASPER01");
+        let values = [name, self.pages as u64, self.frames as u64];
+        header_rec().write(&values, into);
+    }
+}
