@@ -1,0 +1,215 @@
+use Rattle.std.proofs.Common.{◌≡◌, ◌+◌, ◌≤◌, ◌<◌, arith, ℕ, List, [], ◌∷◌, ◌++◌, Option, Some, None, Result, Ok, Err, ap, sym, subst, ◌∙◌, refl, length, length-append, fold, filter_map, append_assoc, inl, inr, take, drop}
+use Rattle.std.proofs.lemmas.List.{append-nil, take-append-drop}
+use Rattle.std.proofs.lemmas.Grind.{flat_map-append}
+use Rattle.std.specs.Option.{option_map_or}
+use Rattle.std.specs.Io.KnownBytes.{append_known}
+use Rattle.casper_io.proofs.Known.{append_known-nil, append_known-append}
+use Rattle.casper_io.specs.Lines.{TakesLine}
+use Rattle.casper_io.specs.declared.lines.Next.TheVariants as next
+use Rattle.casper_io.specs.Told.{WhereTold, TakesFront}
+use Rattle.std.proofs.lemmas.List.Elements.{filter_map-append}
+use Rattle.std.proofs.lemmas.List.Sums.{fold-append}
+use Rattle.casper_space.specs.declared.answer.Answer.{Answer}
+use Rattle.casper_app.specs.declared.cause.Cause.{Cause}
+use Rattle.casper_app.specs.declared.cause.Cause.TheVariants as cause
+use Rattle.casper_app.specs.declared.schedule.Event.{Event}
+use Rattle.casper_app.specs.Session.{Session, at_start, after_event, session_after}
+use Rattle.casper_app.specs.Lines.{event_in, events_in, IsTaken, AreTaken}
+use Rattle.casper_app.specs.Replay.{ReadsLines, EndsFor, most_lines}
+use Rattle.casper_app.specs.Reading.{Stands, IsReading, WritesTextFor}
+use Rattle.casper_app.specs.Taking.{after_line, answer_in, answers_in, TakesInput, NextEnds}
+use Rattle.casper_app.specs.Texts.{answer_line, answer_lines}
+
+-- one more line stands behind those that were read
+reads_more : (first : Option (List ℕ)) (lines : List (List ℕ)) (left : Option (List ℕ)) (line : List ℕ) (last : Option (List ℕ)) → ReadsLines first lines left → WhereTold left last (TakesLine line) → ReadsLines first (lines ++ line ∷ []) last
+reads_more first [] left line last same takes = (last, subst (λ (f : Option (List ℕ)). WhereTold f last (TakesLine line)) (sym same) takes, refl)
+reads_more first (one ∷ lines) left line last reads takes = (reads.0, reads.1, reads_more reads.0 lines left line last reads.2 takes)
+
+taken_more : (lines : List (List ℕ)) (line : List ℕ) → AreTaken lines → IsTaken line → AreTaken (lines ++ line ∷ [])
+taken_more [] line each one = (one, tt)
+taken_more (first ∷ lines) line each one = (each.0, taken_more lines line each.1 one)
+
+-- what stands after one more line
+session_more : (pages : ℕ) (lines : List (List ℕ)) (line : List ℕ) → session_after pages (events_in (lines ++ line ∷ [])) ≡ after_line pages (session_after pages (events_in lines)) line
+session_more pages lines line =
+    ap (session_after pages) (filter_map-append event_in lines (line ∷ []))
+    ∙ fold-append (after_event pages) at_start (events_in lines) (events_in (line ∷ []))
+    ∙ by_event (event_in line) (session_after pages (events_in lines))
+  where
+    by_event : (asked : Option Event) (session : Session) → fold (after_event pages) session (filter_map (λ (l : List ℕ). asked) (line ∷ [])) ≡ option_map_or (after_event pages session) asked session
+    by_event None session = refl
+    by_event (Some asked) session = refl
+
+-- the answers after a line are those before it, and then the line's
+answers_more : (pages : ℕ) (session : Session) (line : List ℕ) → (after_line pages session line).answers ≡ session.answers ++ answers_in pages session line
+answers_more pages session line = by_event (event_in line)
+  where
+    by_event : (asked : Option Event) → (option_map_or (after_event pages session) asked session).answers ≡ session.answers ++ option_map_or (λ e. answer_in pages session e ∷ []) asked []
+    by_event None = sym (append-nil session.answers)
+    by_event (Some asked) = refl
+
+-- before any line
+pub stands_first : (pages : ℕ) (left taken : Option (List ℕ)) → Stands pages 0 left left taken taken at_start
+stands_first pages left taken = record { lines = []; counted = refl; reads = refl; each = tt; is = refl; written = sym (append_known-nil taken) }
+
+-- the text of more answers is written behind the text of those before
+written_more : (first between last : Option (List ℕ)) (before more : List Answer) → between ≡ append_known first (answer_lines before) → last ≡ append_known between (answer_lines more) → last ≡ append_known first (answer_lines (before ++ more))
+written_more first between last before more start end =
+    end ∙ ap (λ (known : Option (List ℕ)). append_known known (answer_lines more)) start
+    ∙ append_known-append first (answer_lines before) (answer_lines more)
+    ∙ ap (append_known first) (sym (flat_map-append answer_line before more))
+
+-- after one more line that was taken
+pub stands_more : (pages count : ℕ) (first left last taken_first taken taken_last : Option (List ℕ)) (session session' : Session) (line : List ℕ)
+    → Stands pages count first left taken_first taken session → WhereTold left last (TakesLine line) → IsTaken line
+    → session' ≡ after_line pages session line → taken_last ≡ append_known taken (answer_lines (answers_in pages session line))
+    → Stands pages (count + 1) first last taken_first taken_last session'
+stands_more pages count first left last taken_first taken taken_last session session' line stands takes one after written = record {
+  lines = stands.lines ++ line ∷ [];
+  counted = length-append stands.lines (line ∷ []) ∙ ap (λ (n : ℕ). n + 1) stands.counted;
+  reads = reads_more first stands.lines left line last stands.reads takes;
+  each = taken_more stands.lines line stands.each one;
+  is = after ∙ ap (λ (s : Session). after_line pages s line) stands.is ∙ sym (session_more pages stands.lines line);
+  written = written_more first_known taken taken_last session.answers (answers_in pages session line) stands.written written
+      ∙ ap (λ (answers : List Answer). append_known taken_first (answer_lines answers)) (sym (ap (λ (s : Session). s.answers) after ∙ answers_more pages session line));
+}
+  where
+    first_known : Option (List ℕ)
+    first_known = taken_first
+
+-- a front of the text of more answers, behind the text of those before
+front_more : (first between last : Option (List ℕ)) (before more : List Answer) → between ≡ append_known first (answer_lines before) → TakesFront between last (answer_lines more)
+    → (out : List ℕ) × (rest : List ℕ) × (last ≡ append_known first out) × (answer_lines (before ++ more) ≡ out ++ rest)
+front_more first between last before more start front = (
+  answer_lines before ++ take front.count (answer_lines more),
+  drop front.count (answer_lines more),
+  front.taken ∙ ap (λ (known : Option (List ℕ)). append_known known (take front.count (answer_lines more))) start
+      ∙ append_known-append first (answer_lines before) (take front.count (answer_lines more)),
+  flat_map-append answer_line before more
+      ∙ ap (λ (text : List ℕ). answer_lines before ++ text) (sym (take-append-drop front.count (answer_lines more)))
+      ∙ sym (append_assoc (answer_lines before) (take front.count (answer_lines more)) (drop front.count (answer_lines more))),
+)
+
+-- no line stood next
+pub reading_ended : (pages count : ℕ) (first left last taken_first taken : Option (List ℕ)) (session : Session) (said : Cause)
+    → Stands pages count first left taken_first taken session → count ≤ most_lines → NextEnds said (count + 1) left last
+    → IsReading pages first last taken_first taken session said count
+reading_ended pages count first left last taken_first taken session said stands few next = record {
+  lines = stands.lines;
+  rest = left;
+  reads = stands.reads;
+  each = stands.each;
+  few = omega (arith, stands.counted);
+  counted = λ done. stands.counted;
+  ends = ends_for said next;
+  is = stands.is;
+  out = answer_lines session.answers;
+  taken_is = stands.written;
+  written = all_written said next;
+}
+  where
+    ends_for : (c : Cause) → NextEnds c (count + 1) left last → EndsFor c (length stands.lines) left last
+    ends_for cause.Done h = h
+    ends_for cause.Usage h = h
+    ends_for cause.Read h = h
+    ends_for cause.Write h = absurd h
+    ends_for cause.Memory h = absurd h
+    ends_for (cause.BadLine n) h = (h.0 ∙ ap (λ (k : ℕ). k + 1) (sym stands.counted), (h.1, inl h.2))
+    ends_for (cause.Unbuilt n) h = absurd h
+
+    all_written : (c : Cause) → NextEnds c (count + 1) left last → WritesTextFor c (answer_lines session.answers) (answer_lines session.answers)
+    all_written cause.Done h = refl
+    all_written cause.Usage h = refl
+    all_written cause.Read h = refl
+    all_written cause.Write h = absurd h
+    all_written cause.Memory h = refl
+    all_written (cause.BadLine n) h = refl
+    all_written (cause.Unbuilt n) h = refl
+
+-- one line too many stood next
+pub reading_past : (pages : ℕ) (first left last taken_first taken : Option (List ℕ)) (session : Session) (line : List ℕ)
+    → Stands pages most_lines first left taken_first taken session → WhereTold left last (TakesLine line)
+    → IsReading pages first last taken_first taken session (cause.BadLine (most_lines + 1)) most_lines
+reading_past pages first left last taken_first taken session line stands takes = record {
+  lines = stands.lines;
+  rest = left;
+  reads = stands.reads;
+  each = stands.each;
+  few = omega (arith, stands.counted);
+  counted = λ done. stands.counted;
+  ends = (ap (λ (k : ℕ). k + 1) (sym stands.counted), (line, inr (takes, inr refl)));
+  is = stands.is;
+  out = answer_lines session.answers;
+  taken_is = stands.written;
+  written = refl;
+}
+
+-- a line was refused, or memory was short, or the sink failed at its answer
+pub reading_refused : (pages count : ℕ) (first left last taken_first taken taken_last : Option (List ℕ)) (session session' : Session) (line : List ℕ) (said : Cause)
+    → Stands pages count first left taken_first taken session → count < most_lines → WhereTold left last (TakesLine line)
+    → TakesInput pages (count + 1) line session session' taken taken_last (Err said)
+    → IsReading pages first last taken_first taken_last session' said count
+reading_refused pages count first left last taken_first taken taken_last session session' line cause.Done stands few takes h = absurd h
+reading_refused pages count first left last taken_first taken taken_last session session' line cause.Usage stands few takes h = absurd h
+reading_refused pages count first left last taken_first taken taken_last session session' line cause.Read stands few takes h = absurd h
+reading_refused pages count first left last taken_first taken taken_last session session' line cause.Write stands few takes h =
+    let front = front_more taken_first taken taken_last session.answers (answers_in pages session line) stands.written h.2 in record {
+      lines = stands.lines ++ line ∷ [];
+      rest = last;
+      reads = reads_more first stands.lines left line last stands.reads takes;
+      each = taken_more stands.lines line stands.each h.0;
+      few = omega (arith, length-append stands.lines (line ∷ []), stands.counted);
+      counted = λ done. cc;
+      ends = refl;
+      is = h.1 ∙ ap (λ (s : Session). after_line pages s line) stands.is ∙ sym (session_more pages stands.lines line);
+      out = front.0;
+      taken_is = front.2;
+      written = (front.1, ap (λ (s : Session). answer_lines s.answers) h.1 ∙ ap answer_lines (answers_more pages session line) ∙ front.3);
+    }
+reading_refused pages count first left last taken_first taken taken_last session session' line cause.Memory stands few takes h = record {
+  lines = stands.lines;
+  rest = left;
+  reads = stands.reads;
+  each = stands.each;
+  few = omega (arith, stands.counted);
+  counted = λ done. stands.counted;
+  ends = inr (Ok next.Line, line, takes);
+  is = h.0 ∙ stands.is;
+  out = answer_lines session'.answers;
+  taken_is = h.1 ∙ stands.written ∙ ap (λ (s : Session). append_known taken_first (answer_lines s.answers)) (sym h.0);
+  written = refl;
+}
+reading_refused pages count first left last taken_first taken taken_last session session' line (cause.BadLine n) stands few takes h = record {
+  lines = stands.lines;
+  rest = left;
+  reads = stands.reads;
+  each = stands.each;
+  few = omega (arith, stands.counted);
+  counted = λ done. stands.counted;
+  ends = (h.0 ∙ ap (λ (k : ℕ). k + 1) (sym stands.counted), (line, inr (takes, inl h.1)));
+  is = h.2 ∙ stands.is;
+  out = answer_lines session'.answers;
+  taken_is = h.3 ∙ stands.written ∙ ap (λ (s : Session). append_known taken_first (answer_lines s.answers)) (sym h.2);
+  written = refl;
+}
+reading_refused pages count first left last taken_first taken taken_last session session' line (cause.Unbuilt n) stands few takes h = record {
+  lines = stands.lines;
+  rest = left;
+  reads = stands.reads;
+  each = stands.each;
+  few = omega (arith, stands.counted);
+  counted = λ done. stands.counted;
+  ends = (h.0 ∙ ap (λ (k : ℕ). k + 1) (sym stands.counted), (omega (arith, h.0), line, takes, h.1));
+  is = h.2 ∙ stands.is;
+  out = answer_lines session'.answers;
+  taken_is = h.3 ∙ stands.written ∙ ap (λ (s : Session). append_known taken_first (answer_lines s.answers)) (sym h.2);
+  written = refl;
+}
+
+-- what a line did, by its pages and its bytes in other words
+pub input_at : (pages pages' number : ℕ) (line line' : List ℕ) (session session' : Session) (taken taken_last : Option (List ℕ)) (result : Result (Unit {0}) Cause)
+    → pages ≡ pages' → line ≡ line' → TakesInput pages number line session session' taken taken_last result
+    → TakesInput pages' number line' session session' taken taken_last result
+input_at pages pages' number line line' session session' taken taken_last result same_pages same_line h =
+    subst (λ (p : ℕ). TakesInput p number line' session session' taken taken_last result) same_pages
+    (subst (λ (l : List ℕ). TakesInput pages number l session session' taken taken_last result) same_line h)

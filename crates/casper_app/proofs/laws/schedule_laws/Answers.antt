@@ -1,0 +1,8 @@
+use Rattle.casper_app.proofs.GrammarLemmas.{events_are_read_back, events_have_one_text}
+use Rattle.casper_app.proofs.laws.schedule_laws.Goals as goal
+
+pub returns-clause-read_back : goal.returns-clause-read_back
+returns-clause-read_back c = events_are_read_back
+
+pub returns-clause-one_text : goal.returns-clause-one_text
+returns-clause-one_text c = events_have_one_text

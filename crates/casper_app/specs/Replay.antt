@@ -1,0 +1,87 @@
+use Rattle.std.specs.Prelude.{◌≡◌, ℕ, ◌+◌, ◌≤◌, List, [], ◌∷◌, ◌++◌, length, Option, Result, ◌⊎◌}
+use Rattle.casper_io.specs.declared.fault.IoFault.{IoFault}
+use Rattle.casper_io.specs.declared.lines.Next.{Next}
+use Rattle.casper_io.specs.Lines.{Takes, TakesLine, TakesEnd, TakesTooLong, TakesPart}
+use Rattle.casper_io.specs.Told.{WhereTold}
+use Rattle.casper_trail.specs.declared.item.Item.{Item}
+use Rattle.casper_trail.specs.TrailView.{entry_count}
+use Rattle.casper_space.specs.declared.answer.Answer.{Answer}
+use Rattle.casper_app.specs.declared.cause.Cause.{Cause}
+use Rattle.casper_app.specs.declared.cause.Cause.TheVariants as cause
+use Rattle.casper_app.specs.declared.schedule.Parsed.TheVariants as parsed
+use Rattle.casper_app.specs.Schedule.{parsed_line}
+use Rattle.casper_app.specs.Session.{session_after}
+use Rattle.casper_app.specs.Lines.{events_in, AreTaken}
+use Rattle.casper_app.specs.Texts.{answer_lines, summary_line, cause_line}
+
+-- the greatest number of lines of one input
+abbrev pub most_lines : ℕ
+most_lines = 1048576
+
+-- these lines stand one after another at the front of the bytes before, where told
+abbrev pub ReadsLines : Option (List ℕ) → List (List ℕ) → Option (List ℕ) → Type 0
+ReadsLines before [] after = before ≡ after
+ReadsLines before (line ∷ lines) after = (between : Option (List ℕ)) × WhereTold before between (TakesLine line) × ReadsLines between lines after
+
+-- whatever stands next was taken, or nothing was
+abbrev pub TakesAny : Option (List ℕ) → Option (List ℕ) → Type 0
+TakesAny before after = (before ≡ after) ⊎ ((answer : Result Next IoFault) × (line : List ℕ) × WhereTold before after (Takes answer line))
+
+-- a line stands next that is too long, of no known form, or one too many
+abbrev pub TakesBadLine : ℕ → Option (List ℕ) → Option (List ℕ) → Type 0
+TakesBadLine number before after = (line : List ℕ) × (WhereTold before after (TakesTooLong line)
+    ⊎ (WhereTold before after (TakesLine line) × ((parsed_line line ≡ parsed.Bad) ⊎ (number ≡ most_lines + 1))))
+
+-- a line stands next of a known form that is not built yet
+abbrev pub TakesUnbuilt : ℕ → Option (List ℕ) → Option (List ℕ) → Type 0
+TakesUnbuilt number before after = (number ≤ most_lines) × (line : List ℕ) × WhereTold before after (TakesLine line) × (parsed_line line ≡ parsed.Unbuilt)
+
+-- behind so many lines that were skipped or answered, the reading ended for this cause
+abbrev pub EndsFor : Cause → ℕ → Option (List ℕ) → Option (List ℕ) → Type 0
+EndsFor cause.Done count before after = WhereTold before after (TakesEnd [])
+EndsFor cause.Usage count before after = ⊥
+EndsFor cause.Read count before after = (part : List ℕ) × WhereTold before after (TakesPart part)
+EndsFor cause.Write count before after = before ≡ after
+EndsFor cause.Memory count before after = TakesAny before after
+EndsFor (cause.BadLine number) count before after = (number ≡ count + 1) × TakesBadLine number before after
+EndsFor (cause.Unbuilt number) count before after = (number ≡ count + 1) × TakesUnbuilt number before after
+
+-- the line that tells how a replay ended
+abbrev pub ending_line : Cause → ℕ → ℕ → List ℕ
+ending_line cause.Done lines calls = summary_line lines calls
+ending_line cause.Usage lines calls = cause_line cause.Usage
+ending_line cause.Read lines calls = cause_line cause.Read
+ending_line cause.Write lines calls = cause_line cause.Write
+ending_line cause.Memory lines calls = cause_line cause.Memory
+ending_line (cause.BadLine number) lines calls = cause_line (cause.BadLine number)
+ending_line (cause.Unbuilt number) lines calls = cause_line (cause.Unbuilt number)
+
+-- a text was written whole, and the cause stands; or a front of it, and the sink failed
+abbrev pub WritesFor : Cause → Cause → List ℕ → List ℕ → Type 0
+WritesFor said last text out = ((last ≡ said) × (out ≡ text)) ⊎ ((last ≡ cause.Write) × (rest : List ℕ) × (text ≡ out ++ rest))
+
+-- a replay over a store of so many zero pages, from the bytes left before to those left after it
+pub record IsReplay (pages : ℕ) (before after : Option (List ℕ)) (answers : List Answer) (items : List Item) (last : Cause) (out : List ℕ) : Type 0 where
+  -- the lines that were skipped or answered, and what was left behind them
+  pub lines : List (List ℕ)
+  pub rest : Option (List ℕ)
+  pub reads : ReadsLines before lines rest
+  pub taken : AreTaken lines
+  pub few : length lines ≤ most_lines
+  -- why the reading ended
+  pub said : Cause
+  pub ends : EndsFor said (length lines) rest after
+  -- the answers and the trail are those of the events that the lines ask for
+  pub answered : answers ≡ (session_after pages (events_in lines)).answers
+  pub recorded : items ≡ (session_after pages (events_in lines)).items
+  -- the answers were written, and then how it ended
+  pub written : WritesFor said last (answer_lines answers ++ ending_line said (length lines) (entry_count items)) out
+
+-- words that are no command, or one that is not built: nothing was read or answered
+pub record IsRefusal (refused : Cause) (before after : Option (List ℕ)) (answers : List Answer) (items : List Item) (last : Cause) (out : List ℕ) : Type 0 where
+  pub unread : after ≡ before
+  pub answered : answers ≡ []
+  pub recorded : items ≡ []
+  pub said : Cause
+  pub cause : (said ≡ refused) ⊎ (said ≡ cause.Memory)
+  pub written : WritesFor said last (ending_line said 0 0) out

@@ -1,0 +1,52 @@
+ghost use Rattle.std.specs.Prelude.{◌≡◌};
+
+use casper_words::Memory;
+
+/// Why a call of `run` ended.
+#[derive(Clone, Copy, Debug, PartialEq, Eq)]
+pub enum Cause {
+    /// The input was read to its end and every line answered.
+    Done,
+    /// The words are no command.
+    Usage,
+    /// The source failed.
+    Read,
+    /// The sink failed.
+    Write,
+    /// Memory was short.
+    Memory,
+    /// The line of this number, from 1, is of no known form.
+    BadLine(u32),
+    /// The command (0), or the line of this number, is not built yet.
+    Unbuilt(u32),
+}
+
+impl Cause {
+    ghost use Rattle.casper_app.specs.Status.{status_of};
+
+    /// The status with which the program ends.
+    pub fn status(&self) -> u8
+        ensures { result ≡ status_of self.now }
+    {
+        match self {
+            Cause::Done => 0,
+            Cause::Usage => 2,
+            Cause::Read => 3,
+            Cause::Write => 4,
+            Cause::Memory => 7,
+            Cause::BadLine(_) => 8,
+            Cause::Unbuilt(_) => 10,
+        }
+    }
+}
+
+impl From<Memory> for Cause {
+    ghost use Rattle.std.specs.Prelude.{◌≡◌};
+    ghost use Rattle.casper_app.specs.declared.cause.Cause.TheVariants as cause;
+
+    ghost from_gives = { λ _ made. made ≡ cause.Memory };
+
+    fn from(_memory: Memory) -> Cause {
+        Cause::Memory
+    }
+}

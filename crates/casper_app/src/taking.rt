@@ -1,0 +1,84 @@
+ghost use Rattle.std.specs.Prelude.{◌≡◌, ◌+◌, ◌<◌, ◌≤◌, length, MatchOption, Some, Err};
+ghost use Rattle.casper_words.specs.Count.{Rose};
+ghost use Rattle.casper_io.specs.Lines.{TakesLine};
+ghost use Rattle.casper_io.specs.Told.{WhereTold};
+ghost use Rattle.casper_trail.specs.TrailView.{entry_count};
+ghost use Rattle.casper_app.specs.Shown.{shown, IsRight};
+ghost use Rattle.casper_app.specs.Taking.{TakesEvent, TakesInput, NextEnds};
+
+use crate::Cause;
+use crate::replay::Replay;
+use crate::schedule::{Event, Parsed, parse_line};
+use crate::text::answer_text;
+use casper_io::{IoFault, Line, Next, Sink, Source, next_line, put_all};
+use std::alloc::Global;
+
+/// Reads the next line into `line`. Some cause where no line stands next; the line would have been of this number.
+pub(crate) fn read_line<S: Source>(source: &mut S, line: &mut Line, number: u32) -> Option<Cause>
+    ensures next { MatchOption result
+        (WhereTold (S.left source.old) (S.left source.new) (TakesLine line.new))
+        (λ ended. NextEnds ended number (S.left source.old) (S.left source.new)) }
+    ensures fault { result ≡ Some Cause.Read → Rose (S.faults source.old) (S.faults source.new) }
+    ensures never_falls { S.faults source.old ≤ S.faults source.new }
+    ensures short { length line.new ≤ 1024 }
+{
+    match next_line(source, line) {
+        Ok(Next::Line) => None,
+        Ok(Next::End) => Some(Cause::Done),
+        Ok(Next::TooLong) => Some(Cause::BadLine(number)),
+        Err(IoFault::Failed) => Some(Cause::Read),
+    }
+}
+
+impl Replay {
+    /// Answers a line, if it asks for an event, and writes the answer.
+    pub(crate) fn take_line<K: Sink>(
+        &mut self,
+        alloc: Global,
+        number: u32,
+        line: &[u8],
+        sink: &mut K,
+    ) -> Result<(), Cause>
+        requires right { IsRight self.old }
+        requires few { entry_count self.old.trail.items < 4194304 }
+        requires short { length line.now ≤ 1024 }
+        ensures pages { self.new.pages ≡ self.old.pages }
+        ensures right { IsRight self.new }
+        ensures takes { TakesInput self.old.pages number line.now (shown self.old) (shown self.new) (K.taken sink.old) (K.taken sink.new) result }
+        ensures entries { entry_count self.new.trail.items ≤ entry_count self.old.trail.items + 1 }
+        ensures fault { result ≡ Err Cause.Write → Rose (K.faults sink.old) (K.faults sink.new) }
+        ensures never_falls { K.faults sink.old ≤ K.faults sink.new }
+    {
+        match parse_line(alloc, line)? {
+            Parsed::Skip => Ok(()),
+            Parsed::Event(event) => self.take_event(alloc, &event, sink),
+            Parsed::Unbuilt => Err(Cause::Unbuilt(number)),
+            Parsed::Bad => Err(Cause::BadLine(number)),
+        }
+    }
+
+    /// Answers an event, and writes the answer.
+    fn take_event<K: Sink>(
+        &mut self,
+        alloc: Global,
+        event: &Event,
+        sink: &mut K,
+    ) -> Result<(), Cause>
+        requires right { IsRight self.old }
+        requires few { entry_count self.old.trail.items < 4194304 }
+        ensures pages { self.new.pages ≡ self.old.pages }
+        ensures right { IsRight self.new }
+        ensures takes { TakesEvent self.old.pages event.now (shown self.old) (shown self.new) (K.taken sink.old) (K.taken sink.new) result }
+        ensures entries { entry_count self.new.trail.items ≤ entry_count self.old.trail.items + 1 }
+        ensures fault { result ≡ Err Cause.Write → Rose (K.faults sink.old) (K.faults sink.new) }
+        ensures never_falls { K.faults sink.old ≤ K.faults sink.new }
+    {
+        let answer = self.answer(event);
+        let text = answer_text(alloc, &answer)?;
+        self.carry_out(event, answer)?;
+        match put_all(sink, text.as_bytes()) {
+            Ok(()) => Ok(()),
+            Err(IoFault::Failed) => Err(Cause::Write),
+        }
+    }
+}

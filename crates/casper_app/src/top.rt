@@ -1,0 +1,115 @@
+ghost use Rattle.std.specs.Prelude.{◌≡◌, [], ◌⊎◌, IfSome, IfOk};
+ghost use Rattle.casper_words.specs.Count.{Rose};
+ghost use Rattle.casper_trail.specs.Legal.{IsLegal};
+ghost use Rattle.casper_trail.specs.Value.{zero_pages};
+ghost use Rattle.casper_app.specs.Shown.{shown, IsRight};
+ghost use Rattle.casper_app.specs.Status.{status_of};
+ghost use Rattle.casper_app.specs.Ending.{IsRun, IsLegalRun, RunsReplay, EndsWith};
+
+use crate::Cause;
+use crate::command::pages_asked;
+use crate::ending::write_ending;
+use crate::lines::take_lines;
+use crate::replay::{MOST_ENTRIES, Replay};
+use casper_io::{Line, Sink, Source};
+use casper_space::Answers;
+use casper_text::Word;
+use casper_trail::Trail;
+use casper_words::Memory;
+use std::alloc::Global;
+
+/// What stands when a call of `run` returns.
+#[derive(Drop)]
+pub struct Ended {
+    /// The status with which the program ends.
+    pub status: u8,
+    /// The answers to the lines that were answered, in order.
+    pub answers: Answers,
+    /// The reads and writes that these answers complete, in order.
+    pub trail: Trail,
+    /// Why the call ended.
+    pub last: Cause,
+}
+
+/// Does what the words ask: `replay mem:P` answers the lines of the source over a store of P zero pages, each before it
+/// reads the next, and writes the answers and a summary to the sink.
+///
+/// Where the words are refused nothing is read. Where the call does not end with status 0 the last line tells why.
+pub fn run<S: Source, K: Sink>(alloc: Global, words: &[Word], source: &mut S, sink: &mut K) -> Ended
+    // What was read, answered, recorded and written.
+    ensures run { IsRun words.now (S.left source.old) (S.left source.new) (K.taken sink.old) (K.taken sink.new)
+        result.answers.items result.trail.items result.last }
+    // What was recorded is one legal history of a plain page array.
+    ensures legal { IsLegalRun words.now result.trail.items }
+    // Status 0 says that the input was read to its end.
+    ensures end { result.last ≡ Cause.Done → IfSome (S.left source.new) (λ left. left ≡ []) }
+    ensures status { result.status ≡ status_of result.last }
+    ensures read_fault { result.last ≡ Cause.Read → Rose (S.faults source.old) (S.faults source.new) }
+    ensures write_fault { result.last ≡ Cause.Write → Rose (K.faults sink.old) (K.faults sink.new) }
+{
+    match pages_asked(words) {
+        Ok(pages) => replay(alloc, pages, source, sink),
+        Err(cause) => end_unread(alloc, cause, sink),
+    }
+}
+
+/// Replays the lines of the source over so many zero pages.
+fn replay<S: Source, K: Sink>(alloc: Global, pages: u32, source: &mut S, sink: &mut K) -> Ended
+    ensures run { RunsReplay pages (S.left source.old) (S.left source.new) (K.taken sink.old) (K.taken sink.new)
+        result.answers.items result.trail.items result.last }
+    ensures legal { IsLegal (zero_pages pages) result.trail.items }
+    ensures end { result.last ≡ Cause.Done → IfSome (S.left source.new) (λ left. left ≡ []) }
+    ensures status { result.status ≡ status_of result.last }
+    ensures read_fault { result.last ≡ Cause.Read → Rose (S.faults source.old) (S.faults source.new) }
+    ensures write_fault { result.last ≡ Cause.Write → Rose (K.faults sink.old) (K.faults sink.new) }
+{
+    let (mut line, mut replay) = match rooms(alloc, pages) {
+        Ok(rooms) => rooms,
+        Err(Memory) => return end_unread(alloc, Cause::Memory, sink),
+    };
+    let reading = take_lines(alloc, &mut replay, &mut line, source, sink);
+    let last = write_ending(
+        alloc,
+        sink,
+        reading.said,
+        reading.lines,
+        replay.trail.entries(),
+    );
+    let (answers, trail) = replay.into_parts();
+    Ended {
+        status: last.status(),
+        answers,
+        trail,
+        last,
+    }
+}
+
+/// The room of one line, and the state before any event.
+fn rooms(alloc: Global, pages: u32) -> Result<(Line, Replay), Memory>
+    ensures start { IfOk result (λ rooms. shown rooms.1 ≡ record { joined = []; items = []; answers = [] }) }
+    ensures right { IfOk result (λ rooms. IsRight rooms.1) }
+    ensures pages { IfOk result (λ rooms. rooms.1.pages ≡ pages) }
+{
+    let line = Line::new(alloc)?;
+    let replay = Replay::new(alloc, pages)?;
+    Ok((line, replay))
+}
+
+/// Ends a call that has read and answered nothing.
+fn end_unread<K: Sink>(alloc: Global, meant: Cause, sink: &mut K) -> Ended
+    ensures ends { EndsWith meant result.last 0 0 (K.taken sink.old) (K.taken sink.new) }
+    ensures answers { result.answers.items ≡ [] }
+    ensures trail { result.trail.items ≡ [] }
+    ensures status { result.status ≡ status_of result.last }
+    ensures read { result.last ≡ Cause.Read → meant ≡ Cause.Read }
+    ensures fault { result.last ≡ Cause.Write → (meant ≡ Cause.Write) ⊎ Rose (K.faults sink.old) (K.faults sink.new) }
+    ensures done { result.last ≡ Cause.Done → meant ≡ Cause.Done }
+{
+    let last = write_ending(alloc, sink, meant, 0, 0);
+    Ended {
+        status: last.status(),
+        answers: Answers::new(alloc),
+        trail: Trail::new(alloc, MOST_ENTRIES),
+        last,
+    }
+}
