@@ -1,0 +1,193 @@
+use casper_app::{Cause, run};
+use casper_io::{MemSink, MemSource};
+use casper_space::Answer;
+use casper_text::Word;
+use casper_words::{Memory, Op, Who};
+use std::alloc::Global;
+use std::test::Fail;
+
+/// Room for whatever a row writes.
+const ROOM: u32 = 4096;
+
+const ROW: &[u8] = b"join 1\nwrite 1 5 0 17\nread 1 5 0\n";
+
+fn words_of(alloc: Global, line: &str) -> Result<Vec<Word>, Memory> {
+    let mut words = Vec::new(alloc);
+    for word in line.split_whitespace() {
+        words.push(Word::new(String::from_str(alloc, word)?))?;
+    }
+    Ok(words)
+}
+
+/// The status and the bytes written.
+fn replayed(
+    alloc: Global,
+    words: &str,
+    input: &[u8],
+    read_fails: &[u64],
+    write_fails: &[u64],
+) -> Result<(u8, Vec<u8>), Memory> {
+    let words = words_of(alloc, words)?;
+    let mut source = MemSource::new(alloc, input, read_fails)?;
+    let mut sink = MemSink::new(alloc, ROOM, write_fails)?;
+    let ended = run(alloc, &words, &mut source, &mut sink);
+    Ok((ended.status, Vec::from_slice(alloc, sink.bytes())?))
+}
+
+#[test]
+fn rows(rt: HostRuntime) -> Result<(), Fail> {
+    let table: [(&str, &[u8], &str, u8); 8] = [
+        (
+            "replay mem:16384",
+            b"",
+            "end lines=0 calls=0 commits=0 rollbacks=0 version=1\n",
+            0,
+        ),
+        (
+            "replay mem:16384",
+            ROW,
+            "joined\nok\n17\nend lines=3 calls=2 commits=0 rollbacks=0 version=1\n",
+            0,
+        ),
+        (
+            "replay mem:16384",
+            b"join 1\nread 1 16383 511",
+            "joined\n0\nend lines=2 calls=1 commits=0 rollbacks=0 version=1\n",
+            0,
+        ),
+        (
+            "replay mem:16384",
+            b"join 1\njoin 1\nread 1 16384 0\nread 1 0 512\nread 2 0 0\n",
+            "joined\nbusy\nrange\nrange\nabsent\nend lines=5 calls=0 commits=0 rollbacks=0 version=1\n",
+            0,
+        ),
+        (
+            "replay mem:8",
+            b"# a comment\n\n   \njoin 1\n",
+            "joined\nend lines=4 calls=0 commits=0 rollbacks=0 version=1\n",
+            0,
+        ),
+        (
+            "replay mem:16384",
+            b"join 1\nwrit",
+            "joined\nbad line 2\n",
+            8,
+        ),
+        ("replay mem:0", b"join 1\n", "usage\n", 2),
+        ("format s 8 16", b"join 1\n", "unbuilt 0\n", 10),
+    ];
+    for (words, input, output, status) in table {
+        let (ended, written) = replayed(rt.alloc(), words, input, &[], &[])?;
+        assert_eq!(rt; ended, status, "of {words}");
+        assert_eq!(rt; written.as_slice(), output.as_bytes(), "of {words}");
+    }
+    Ok(())
+}
+
+#[test]
+fn words(rt: HostRuntime) -> Result<(), Fail> {
+    let table = [
+        ("", 2),
+        ("replay", 10),
+        ("replays mem:8", 2),
+        ("replay mem:", 2),
+        ("replay mem:08", 2),
+        ("replay mem:16384", 0),
+        ("replay mem:16385", 2),
+        ("replay store", 10),
+        ("replay mem:8 --trail", 10),
+        ("run mem:8", 10),
+        ("gen 0 2 2", 10),
+        ("audit", 10),
+        ("check u", 10),
+    ];
+    for (words, status) in table {
+        let (ended, _written) = replayed(rt.alloc(), words, b"", &[], &[])?;
+        assert_eq!(rt; ended, status, "of {words}");
+    }
+    Ok(())
+}
+
+#[test]
+fn lines(rt: HostRuntime) -> Result<(), Fail> {
+    let table: [(&[u8], u8); 20] = [
+        (b"join 32", 0),
+        (b"  join   1  ", 0),
+        (b"#", 0),
+        (b"read 1 4294967295 4294967295", 0),
+        (b"write 1 0 0 18446744073709551615", 0),
+        (b"join 0", 8),
+        (b"join 33", 8),
+        (b"join 01", 8),
+        (b"Join 1", 8),
+        (b"join 1 2", 8),
+        (b"read 1 4294967296 0", 8),
+        (b"write 1 0 0 18446744073709551616", 8),
+        (b"# \x7f", 8),
+        (b"join\t1", 8),
+        (b" #", 8),
+        (b"serve 1", 10),
+        (b"reopen", 10),
+        (b"acquire 1 0:r 1:r 2:r 3:r 4:r", 10),
+        (b"1 new 1 2", 10),
+        (b"33 new 1 2", 8),
+    ];
+    for (at, (line, status)) in table.into_iter().enumerate() {
+        let (ended, _written) = replayed(rt.alloc(), "replay mem:8", line, &[], &[])?;
+        assert_eq!(rt; ended, status, "of line {at}");
+    }
+    let mut long = [b'x'; 1025];
+    long[0] = b'#';
+    let (skipped, _written) = replayed(rt.alloc(), "replay mem:8", &long[..1024], &[], &[])?;
+    let (bad, written) = replayed(rt.alloc(), "replay mem:8", &long, &[], &[])?;
+    assert_eq!(rt; skipped, 0);
+    assert_eq!(rt; bad, 8);
+    assert_eq!(rt; written.as_slice(), b"bad line 1\n".as_slice());
+    Ok(())
+}
+
+/// The source fails at each byte of the row and at its end.
+#[test]
+fn each_read_fails(rt: HostRuntime) -> Result<(), Fail> {
+    for at in 1..=34 {
+        let answered: &[u8] = match at {
+            1..=7 => b"read fault\n",
+            8..=22 => b"joined\nread fault\n",
+            23..=33 => b"joined\nok\nread fault\n",
+            _ => b"joined\nok\n17\nread fault\n",
+        };
+        let (status, written) = replayed(rt.alloc(), "replay mem:8", ROW, &[at], &[])?;
+        assert_eq!(rt; status, 3, "at {at}");
+        assert_eq!(rt; written.as_slice(), answered, "at {at}");
+    }
+    Ok(())
+}
+
+/// The sink fails at each answer of the row and at its summary.
+#[test]
+fn each_write_fails(rt: HostRuntime) -> Result<(), Fail> {
+    let fronts: [&[u8]; 4] = [b"", b"joined\n", b"joined\nok\n", b"joined\nok\n17\n"];
+    for (at, front) in fronts.into_iter().enumerate() {
+        let (status, written) = replayed(rt.alloc(), "replay mem:8", ROW, &[], &[at as u64 + 1])?;
+        assert_eq!(rt; status, 4, "at {at}");
+        assert_eq!(rt; written.as_slice(), front, "at {at}");
+    }
+    Ok(())
+}
+
+#[test]
+fn what_stands_at_the_end(rt: HostRuntime) -> Result<(), Fail> {
+    let words = words_of(rt.alloc(), "replay mem:8")?;
+    let mut source = MemSource::new(rt.alloc(), ROW, &[])?;
+    let mut sink = MemSink::new(rt.alloc(), ROOM, &[])?;
+    let ended = run(rt.alloc(), &words, &mut source, &mut sink);
+    assert_eq!(rt; ended.last, Cause::Done);
+    let answers = [Answer::Joined, Answer::Ok, Answer::Value(17)];
+    assert_eq!(rt; ended.answers.as_slice(), answers.as_slice());
+    let who = Who::new(1).ok_or("a client")?;
+    let calls = ended.trail.entries_of(rt.alloc(), who)?;
+    assert_eq!(rt; calls.as_slice().len(), 2);
+    assert_eq!(rt; calls.as_slice()[1].op, Op::Read);
+    assert_eq!(rt; calls.as_slice()[1].value, 17);
+    Ok(())
+}

@@ -1,0 +1,5 @@
+//! Tests that cross crates: rows of words, input, output and status, over the top call.
+#![tactic(auto)]
+
+#[cfg(test)]
+mod first_path;
