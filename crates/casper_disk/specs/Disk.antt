@@ -26,10 +26,10 @@ pub record Elapses (before now : ℕ) (past since : ℕ → List (List ℕ) → 
   pub agrees : (image : List (List ℕ)) → since before image → AgreesBut may_differ blocks image
 
 -- a call leaves the moment and the images since any moment
-pub record Stands (before now : ℕ) (past since : ℕ → List (List ℕ) → Type 0) : Type 0 where
+pub record Stands {Image : Type 0} (before now : ℕ) (past since : ℕ → Image → Type 0) : Type 0 where
   pub moment : now ≡ before
-  pub only : (moment : ℕ) (image : List (List ℕ)) → since moment image → past moment image
-  pub keeps : (moment : ℕ) (image : List (List ℕ)) → past moment image → since moment image
+  pub only : (moment : ℕ) (image : Image) → since moment image → past moment image
+  pub keeps : (moment : ℕ) (image : Image) → past moment image → since moment image
 
 -- what tells nothing does not tell
 pub untold : IsTrue false → ⊥

@@ -8,3 +8,8 @@ pub mod Place
 pub mod Slots
 pub mod Stopped
 pub mod StepKinds
+pub mod Vault
+pub mod CommitFaults
+pub mod MemVault
+pub mod VaultLaws
+pub mod Touched

@@ -4,9 +4,10 @@ ghost use Rattle.casper_words.specs.Count.{Rose};
 ghost use Rattle.casper_disk.specs.declared.fail.Kind.TheVariants as kind;
 ghost use Rattle.casper_disk.specs.Disk.{block_at, none_loose, with_loose, AgreesBut, Elapses, Stands};
 ghost use Rattle.casper_disk.specs.Record.{only_left_now, agrees_itself, content_at};
-ghost use Rattle.casper_disk.specs.Stopped.{settled_before, stop_moment};
+ghost use Rattle.casper_disk.specs.Stopped.{settled_before, stop_moment, began, loose_within};
 ghost use Rattle.casper_disk.specs.Plan.{count_of, armed_with, fails_next};
 ghost use Rattle.casper_disk.specs.MemDisk.{held_loose, held_since};
+ghost use Rattle.casper_disk.specs.Touched.{AreTorn};
 
 use crate::plan::Plan;
 use crate::step::Step;
@@ -146,26 +147,53 @@ impl MemDisk {
         ensures written { pick ≡ Pick.New → IfOk result (λ disk. disk.content ≡ content_at self.now.steps self.now.content (stop_moment self.now call)) }
         ensures before { pick ≡ Pick.Old → IfOk result (λ disk. disk.content
             ≡ content_at self.now.steps self.now.content (settled_before self.now.steps (stop_moment self.now call))) }
+        ensures torn { (byte : ℕ) → pick ≡ Pick.Torn byte → IfOk result (λ disk. AreTorn (loose_within self.now call) byte
+            (content_at self.now.steps self.now.content (stop_moment self.now call)) disk.content) }
+        ensures image { IfOk result (λ disk. held_since self.now (began self.now call) disk.content) }
         ensures steps { IfOk result (λ disk. disk.steps ≡ []) }
         ensures loose { IfOk result (λ disk. held_loose disk ≡ none_loose) }
         ensures room { IfOk result (λ disk. disk.room ≡ length self.now.steps - self.now.armed + self.now.room) }
     {
-        let moment = self.moment(call);
-        let settled = settled_before(&self.steps, moment);
         let mut blocks = copies(alloc, self.blocks.as_slice())?;
-        match pick {
-            Pick::Old => undo(&self.steps, settled, &mut blocks),
-            Pick::New => undo(&self.steps, moment, &mut blocks),
-            Pick::Torn(byte) => {
-                undo(&self.steps, moment, &mut blocks);
-                tear_written(&self.steps[settled..moment], byte, &mut blocks);
-                if call > (self.steps.len() - self.armed) as u64 {
-                    tear_marked(&self.marks, byte, &mut blocks);
-                }
-            }
-        }
+        self.leave(call, pick, &mut blocks);
         let room = (self.steps.len() - self.armed).saturating_add(self.spare.len());
         holding(alloc, blocks, room)
+    }
+
+    /// Makes of the blocks of this disk those that a stop within a call leaves.
+    fn leave(&self, call: u64, pick: Pick, blocks: &mut Vec<Block>)
+        requires some { 1 ≤ call }
+        requires content { blocks.old.items ≡ self.now.content }
+        ensures written { pick ≡ Pick.New → blocks.new.items ≡ content_at self.now.steps self.now.content (stop_moment self.now call) }
+        ensures before { pick ≡ Pick.Old → blocks.new.items
+            ≡ content_at self.now.steps self.now.content (settled_before self.now.steps (stop_moment self.now call)) }
+        ensures torn { (byte : ℕ) → pick ≡ Pick.Torn byte → AreTorn (loose_within self.now call) byte
+            (content_at self.now.steps self.now.content (stop_moment self.now call)) blocks.new.items }
+        ensures image { held_since self.now (began self.now call) blocks.new.items }
+        ensures count { length blocks.new.items ≡ length blocks.old.items }
+    {
+        let moment = self.moment(call);
+        match pick {
+            Pick::Old => undo(&self.steps, settled_before(&self.steps, moment), blocks),
+            Pick::New => undo(&self.steps, moment, blocks),
+            Pick::Torn(byte) => {
+                undo(&self.steps, moment, blocks);
+                self.tear(call, byte, blocks);
+            }
+        }
+    }
+
+    /// Tears the blocks that are loose at a stop within a call.
+    fn tear(&self, call: u64, byte: u8, blocks: &mut Vec<Block>)
+        requires { 1 ≤ call }
+        ensures { AreTorn (loose_within self.now call) byte blocks.old.items blocks.new.items }
+    {
+        let moment = self.moment(call);
+        let settled = settled_before(&self.steps, moment);
+        tear_written(&self.steps[settled..moment], byte, blocks);
+        if call > (self.steps.len() - self.armed) as u64 {
+            tear_marked(&self.marks, byte, blocks);
+        }
     }
 
     /// The moment of a stop within a call.
@@ -354,10 +382,16 @@ mod tests {
             (1, Pick::Torn(9), [1, 9]),
             (2, Pick::Old, [0, 0]),
             (2, Pick::New, [2, 2]),
+            (2, Pick::Torn(9), [2, 9]),
+            (3, Pick::Old, [0, 0]),
+            (3, Pick::New, [2, 2]),
             (3, Pick::Torn(9), [2, 9]),
             (4, Pick::Old, [2, 2]),
+            (4, Pick::New, [3, 3]),
             (4, Pick::Torn(9), [3, 9]),
+            (5, Pick::Old, [2, 2]),
             (5, Pick::New, [3, 3]),
+            (5, Pick::Torn(9), [3, 9]),
         ];
         for (call, pick, want) in table {
             assert!(rt; 1 <= call && call <= most.saturating_add(1));
