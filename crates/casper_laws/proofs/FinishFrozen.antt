@@ -15,7 +15,8 @@ use Rattle.casper_model.specs.Client.{Client}
 use Rattle.casper_model.specs.Stabilisation.{Stabilisation, Phase, Gathering, Sealed, Doubtful, is_gathering, is_sealed, is_doubtful}
 use Rattle.casper_model.specs.Shared.{Shared, rights_at}
 use Rattle.casper_model.specs.Finish.{finish, finished_by, finished_as, failed, ended, committed, settled, settled_by, stabilisation_led_by, doubtful_of}
-use Rattle.casper_model.specs.Vault.{VaultState, Change, commit, written_unless, written_with, refused_at_once, refused_for_room, pages_of, settled_with, settled_vault, free_of, need_of, last_version, VaultRoom}
+use Rattle.casper_space.specs.Changes.{Change, pages_of, free_of, need_of, last_version, VaultRoom}
+use Rattle.casper_model.specs.Vault.{VaultState, commit, written_unless, written_with, refused_at_once, refused_for_room, settled_with, settled_vault}
 use Rattle.casper_model.specs.Outside.{Outside, NothingFailed, LoadFailed, WriteOutFailed, WriteOutDoubted, SettleFailed}
 use Rattle.casper_model.specs.State.{State, Unfinished}
 use Rattle.casper_model.specs.WriteOutStep.{is_unfinished_of, sealed_of, job_of, busy_lead, written_out, changes_of, finish_turn, settle_turn}

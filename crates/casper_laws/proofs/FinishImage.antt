@@ -11,7 +11,8 @@ use Rattle.casper_model.specs.Outside.{Outside, NothingFailed, LoadFailed, Write
 use Rattle.casper_model.specs.Stabilisation.{Stabilisation, Doubtful, is_doubtful}
 use Rattle.casper_model.specs.Shared.{Shared}
 use Rattle.casper_model.specs.Finish.{finish, finished_by, finished_as, failed, settled, settled_by, stabilisation_led_by, doubtful_of}
-use Rattle.casper_model.specs.Vault.{VaultState, VaultRoom, Change, with_changes, commit, written_unless, written_with, refused_at_once, refused_for_room, pages_of, settled_vault, free_of, need_of, last_version}
+use Rattle.casper_space.specs.Changes.{VaultRoom, Change, with_changes, pages_of, free_of, need_of, last_version}
+use Rattle.casper_model.specs.Vault.{VaultState, commit, written_unless, written_with, refused_at_once, refused_for_room, settled_vault}
 use Rattle.casper_model.specs.State.{State, Unfinished}
 use Rattle.casper_model.specs.WriteOutStep.{finish_turn, settle_turn, written_out, changes_of, job_of, busy_lead}
 use Rattle.casper_model.specs.LegalHistory.{HasHistory}

@@ -6,6 +6,7 @@ use Rattle.casper_words.specs.declared.call.Op.{Op}
 use Rattle.casper_words.specs.declared.call.Op.TheVariants as op
 use Rattle.casper_words.specs.declared.page.Right.TheVariants as may
 use Rattle.casper_words.specs.declared.page.Want.{Want}
+use Rattle.casper_trail.specs.Calls.{is_read_or_write}
 use Rattle.casper_space.specs.declared.answer.Answer.{Answer}
 use Rattle.casper_space.specs.declared.answer.Answer.TheVariants as answer
 use Rattle.casper_model.specs.declared.event.Event.{Event}
@@ -38,7 +39,7 @@ IsKept B = (state : State) (event : Event) (outside : Outside) → NamesClients 
 -- what has to be shown of each kind of turn, so that every step keeps a fact P of states with a fact B. A hit may stand
 -- behind an acquire in one step, and is shown from a fact A that steps are known to keep
 pub record KeptByTurns (A B P : State → Type 0) : Type 0 where
-  pub hit : (state : State) (who : ℕ) (act : Op) (page word value : ℕ) → IsClient who → A state → P state
+  pub hit : (state : State) (who : ℕ) (act : Op) (page word value : ℕ) → IsClient who → is_read_or_write act ≡ true → A state → P state
       → can_hit (own_at state who) page (right_for act) ≡ true → P (with_own state (with_call (own_at state who) act page word value))
   pub joining : (state : State) (who : ℕ) → IsClient who → B state → P state → P (after_turn state (join state.shared (own_at state who)))
   pub acquiring : (state : State) (who : ℕ) (wants : List Want) (calls : ℕ) → IsClient who → is_live state.shared who ≡ true → B state → P state
@@ -89,33 +90,33 @@ module _ (A B P : State → Type 0) (base : IsKept A) (first : (state : State) �
       (unguarded A (is_live state.shared who) answer.Absent state (within (are_in_range (want ∷ [])) (acquire_turn who (want ∷ []) outside)) live
       (base state (event.Acquire who (want ∷ [])) outside client b))
 
-  kept_hit : (turn : Turn) (answer : Answer) (who : ℕ) (act : Op) (page word value : ℕ) → IsClient who → A turn.state → P turn.state
+  kept_hit : (turn : Turn) (answer : Answer) (who : ℕ) (act : Op) (page word value : ℕ) → IsClient who → is_read_or_write act ≡ true → A turn.state → P turn.state
       → (can : Bool) → can_hit (own_at turn.state who) page (right_for act) ≡ can
       → P (unwrap_or (hit_turn turn.state answer (cond can (Some (with_call (own_at turn.state who) act page word value)) None)) turn).state
-  kept_hit turn answer who act page word value client b p true e = turns.hit turn.state who act page word value client b p e
-  kept_hit turn answer who act page word value client b p false e = p
+  kept_hit turn answer who act page word value client calls b p true e = turns.hit turn.state who act page word value client calls b p e
+  kept_hit turn answer who act page word value client calls b p false e = p
 
   kept_behind : (who : ℕ) (act : Op) (page word : ℕ) (answer : State → Answer) (value : State → ℕ) (turn : Turn) (granted : Bool)
-      → IsClient who → A turn.state → P turn.state → P (hit_behind (hit_by who act page word (right_for act) answer value) turn granted).state
-  kept_behind who act page word answer value turn true client b p =
-      kept_hit turn (answer turn.state) who act page word (value turn.state) client b p (can_hit (own_at turn.state who) page (right_for act)) refl
-  kept_behind who act page word answer value turn false client b p = p
+      → IsClient who → is_read_or_write act ≡ true → A turn.state → P turn.state → P (hit_behind (hit_by who act page word (right_for act) answer value) turn granted).state
+  kept_behind who act page word answer value turn true client calls b p =
+      kept_hit turn (answer turn.state) who act page word (value turn.state) client calls b p (can_hit (own_at turn.state who) page (right_for act)) refl
+  kept_behind who act page word answer value turn false client calls b p = p
 
   kept_by : (state : State) (who : ℕ) (want : Want) (outside : Outside) (act : Op) (page word : ℕ) (answer : State → Answer) (value : State → ℕ)
-      → IsClient who → A state → P state → A (acquire_step state who (want ∷ []) 1 outside).state → P (acquire_step state who (want ∷ []) 1 outside).state
+      → IsClient who → is_read_or_write act ≡ true → A state → P state → A (acquire_step state who (want ∷ []) 1 outside).state → P (acquire_step state who (want ∷ []) 1 outside).state
       → (can : Bool) → can_hit (own_at state who) page (right_for act) ≡ can
       → P (call_by state who want outside (hit_by who act page word (right_for act) answer value)
       (hit_turn state (answer state) (cond can (Some (with_call (own_at state who) act page word (value state))) None))).state
-  kept_by state who want outside act page word answer value client b p acquired also true e = turns.hit state who act page word (value state) client b p e
-  kept_by state who want outside act page word answer value client b p acquired also false e =
+  kept_by state who want outside act page word answer value client calls b p acquired also true e = turns.hit state who act page word (value state) client calls b p e
+  kept_by state who want outside act page word answer value client calls b p acquired also false e =
       let turn = acquire_step state who (want ∷ []) 1 outside in
-      kept_behind who act page word answer value turn (is_granted turn.answer) client acquired also
+      kept_behind who act page word answer value turn (is_granted turn.answer) client calls acquired also
 
   kept_call : (state : State) (who : ℕ) (want : Want) (outside : Outside) (act : Op) (page word : ℕ) (answer : State → Answer) (value : State → ℕ)
-      → IsClient who → is_live state.shared who ≡ true → nat_lt want.page state.shared.pages ≡ true → B state → P state
+      → IsClient who → is_read_or_write act ≡ true → is_live state.shared who ≡ true → nat_lt want.page state.shared.pages ≡ true → B state → P state
       → P (call_step state who want outside (hit_by who act page word (right_for act) answer value)).state
-  kept_call state who want outside act page word answer value client live inside b p =
-      kept_by state who want outside act page word answer value client (first state b) p (base_acquired state who want outside client live inside (first state b))
+  kept_call state who want outside act page word answer value client calls live inside b p =
+      kept_by state who want outside act page word answer value client calls (first state b) p (base_acquired state who want outside client live inside (first state b))
       (kept_acquire state who (want ∷ []) 1 outside client live b p) (can_hit (own_at state who) page (right_for act)) refl
 
   kept_write_out : (state : State) (outside : Outside) (lead : ℕ) (one : Option Stabilisation) → job_of state lead ≡ one → B state → P state
@@ -151,14 +152,14 @@ module _ (A B P : State → Type 0) (base : IsKept A) (first : (state : State) �
       kept_guarded P (is_in_range page word state) answer.Range state turn p
       (λ inside.
       kept_call state who (record { page = page; right = may.Read }) outside op.Read page word (λ after. answer.Value (value_seen after who page word))
-      (λ after. value_seen after who page word) client live (and_parts (nat_lt page state.shared.pages) (nat_lt word 512) inside).0 b p))
+      (λ after. value_seen after who page word) client refl live (and_parts (nat_lt page state.shared.pages) (nat_lt word 512) inside).0 b p))
   kept_by_step state (event.Write who page word value) outside client b p =
       let turn = write_turn who page word value outside in
       kept_live who state (within (is_in_range page word) turn) p
       (λ live.
       kept_guarded P (is_in_range page word state) answer.Range state turn p
       (λ inside.
-      kept_call state who (record { page = page; right = may.Write }) outside op.Write page word (λ after. answer.Ok) (λ after. value) client live
+      kept_call state who (record { page = page; right = may.Write }) outside op.Write page word (λ after. answer.Ok) (λ after. value) client refl live
       (and_parts (nat_lt page state.shared.pages) (nat_lt word 512) inside).0 b p))
   kept_by_step state (event.Acquire who wants) outside client b p =
       let turn = acquire_turn who wants outside in

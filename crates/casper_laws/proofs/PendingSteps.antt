@@ -52,23 +52,23 @@ none_short : (own : Own) → own.pending ≡ [] → IsShort own
 none_short own none = let e : length own.pending ≡ 0 = ap length none in omega (arith, e)
 
 -- a turn records what its client has pending, or drops it
-record Empties (own own_after : Own) : Type 0 where
-  who : own_after.who ≡ own.who
-  pending : own_after.pending ≡ []
+pub record Empties (own own_after : Own) : Type 0 where
+  pub who : own_after.who ≡ own.who
+  pub pending : own_after.pending ≡ []
 
-acquire_empties : (wants : List Want) (calls : ℕ) (shared : Shared) (own : Own) (fallen : Option Fallen) → Empties own (acquired_by shared own wants calls fallen).own
+pub acquire_empties : (wants : List Want) (calls : ℕ) (shared : Shared) (own : Own) (fallen : Option Fallen) → Empties own (acquired_by shared own wants calls fallen).own
 acquire_empties wants calls shared own (Some fallen) = record { who = refl; pending = refl }
 acquire_empties wants calls shared own None = let records = acquire_records wants calls shared own in record { who = records.who; pending = records.pending }
 
-serve_empties : (shared : Shared) (own : Own) (fallen : Option Fallen) → Empties own (served_by shared own fallen).own
+pub serve_empties : (shared : Shared) (own : Own) (fallen : Option Fallen) → Empties own (served_by shared own fallen).own
 serve_empties shared own (Some fallen) = record { who = refl; pending = refl }
 serve_empties shared own None = let records = serve_records shared own in record { who = records.who; pending = records.pending }
 
-stabilise_empties : (shared : Shared) (own : Own) (fallen : Option Fallen) → Empties own (stabilised_by shared own fallen).own
+pub stabilise_empties : (shared : Shared) (own : Own) (fallen : Option Fallen) → Empties own (stabilised_by shared own fallen).own
 stabilise_empties shared own (Some fallen) = record { who = refl; pending = refl }
 stabilise_empties shared own None = let records = stabilise_records shared own in record { who = records.who; pending = records.pending }
 
-depart_empties : (shared : Shared) (own : Own) (fallen : Option Fallen) → Empties own (departed_by shared own fallen).own
+pub depart_empties : (shared : Shared) (own : Own) (fallen : Option Fallen) → Empties own (departed_by shared own fallen).own
 depart_empties shared own (Some fallen) = record { who = refl; pending = refl }
 depart_empties shared own None = let records = depart_records shared own in record { who = records.who; pending = records.pending }
 
@@ -78,7 +78,7 @@ emptied state who turn order is empties short =
     short_after state who turn.shared turn.own order is empties.who (none_short turn.own empties.pending) short
 
 record JoinsShort (own own_after : Own) : Type 0 where
-  who : own_after.who ≡ own.who
+  pub who : own_after.who ≡ own.who
   short : IsShort own_after
 
 joined_short : (shared : Shared) (own : Own) → IsShort own → (client : Option Client) → JoinsShort own (joined_by shared own client).own
@@ -96,7 +96,7 @@ hit_short own call room =
 
 short_by_turns : KeptByTurns InOrder InOrder ArePendingListsShort
 short_by_turns = record {
-  hit = λ state who act page word value is order short can.
+  hit = λ state who act page word value is calls order short can.
       let own = own_at state who in
       short_after state who state.shared (with_call own act page word value) order is refl
       (hit_short own (record { op = act; page = page; word = word; value = value }) (and_parts (allows own.held page (right_for act)) (nat_lt 0 (room_of own)) can).1) short;

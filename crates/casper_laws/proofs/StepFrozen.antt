@@ -48,7 +48,7 @@ below_places state who order is =
 
 orderly_by_turns : KeptByTurns (λ state. ⊤) HasHistory HasOrderlyStabilisations
 orderly_by_turns = record {
-  hit = λ state who act page word value is known orderly can.
+  hit = λ state who act page word value is calls known orderly can.
       record { frozen = orderly.frozen; written = write_outs_left state state.shared _ state.unfinished (stays_itself state.shared orderly.frozen) orderly.written };
   joining = λ state who is sound orderly.
       orderly_after state _ _ orderly (join_stays state.shared (own_at state who) (below_places state who sound.order is) orderly.frozen);

@@ -123,7 +123,7 @@ same_due state owns (Some one) = refl
 
 stored_by_turns : KeptByTurns (λ state. ⊤) IsOrderly HasStoredImage
 stored_by_turns = record {
-  hit = λ state who act page word value is known stored can.
+  hit = λ state who act page word value is calls known stored can.
       record { shape = stored.shape; image = stored.image ∙ same_due state (with_own state (with_call (own_at state who) act page word value)).owns state.unfinished; unfinished = stored.unfinished; doubtful = stored.doubtful };
   joining = λ state who is known stored.
       let own = own_at state who in

@@ -13,9 +13,9 @@ use Rattle.casper_trail.proofs.Values.{array_keeps_shape, array_has_values, arra
 use Rattle.casper_trail.proofs.Pages.{value_of_modified_page, image_of_other_page}
 use Rattle.casper_trail.proofs.Links.{client_at as writer_is_client, one_association_a_page}
 use Rattle.casper_trail.proofs.Rounds.{association_of_a_member, association_holds_its_client}
-use Rattle.casper_model.specs.Rising.{with_number, with_numbers, rising}
+use Rattle.casper_space.specs.Rising.{with_number, with_numbers, rising}
 use Rattle.casper_model.specs.Frozen.{is_modified_by, open_writes_of, pages_modified_by}
-use Rattle.casper_model.specs.Vault.{Change, with_changes}
+use Rattle.casper_space.specs.Changes.{Change, with_changes}
 use Rattle.casper_laws.proofs.Lists.{any_found, any_of, same_any, contains_map, contains_mapped, contains_filter, contains_filtered}
 use Rattle.casper_laws.proofs.Touches.{writer_is_out}
 

@@ -4,6 +4,9 @@ ghost use Rattle.casper_model.specs.LegalHistory.{EveryRunIsLegal};
 ghost use Rattle.casper_model.specs.WholeHistory.{EveryRunIsLegalAsAWhole, EveryRunHasALegalLivePart, EveryRunHasAClosedStablePart};
 ghost use Rattle.casper_laws.specs.PendingLaws.{EachStepKeepsPendingListsShort, EveryRunKeepsPendingListsShort, EveryRunKeepsCapsInAgreement, EveryRunHasRightsForPendingCalls};
 ghost use Rattle.casper_laws.specs.FrozenLaws.{StartsWithoutStabilisations, EachStepKeepsStabilisationsInOrder, EveryRunKeepsStabilisationsInOrder, EveryRunKeepsHeldAssociationsSilent};
+ghost use Rattle.casper_laws.specs.MarkRoom.{EachStepKeepsNotedMembers, EachStepRecordsMarksThatAreDue, EveryRunKeepsRoomForMarks, EveryMarkHasItsRoom};
+ghost use Rattle.casper_laws.specs.OwnLists.{EachStepKeepsPendingCalls, EachStepKeepsOwnLists, EveryRunKeepsOwnLists, EachReadIsAdded, EachWriteIsAdded};
+ghost use Rattle.casper_laws.specs.RecallLaws.{EachServeMeetsTheAsks, EveryServeMeetsTheAsks};
 ghost use Rattle.casper_laws.specs.StoredImage.{StartsWithItsImage, EachStepKeepsTheImage, EveryRunKeepsTheImage, EveryQuietMomentHasTheStableImage, EveryWrittenImageHasItsAssociation};
 
 /// At every moment of every run a client has at most 4,096 calls pending, what is promised to a live client is what
@@ -36,6 +39,35 @@ pub fn law_of_images()
     ensures run { EveryRunKeepsTheImage }
     ensures quiet { EveryQuietMomentHasTheStableImage }
     ensures written { EveryWrittenImageHasItsAssociation }
+{}
+
+/// A join and a client's turn record no mark, so they may first take memory for the marks to come. Any other step
+/// records no more marks than it leaves fewer due, where one is due for each live client that is not fallen and one for
+/// each stabilisation. So where joins and turns keep room for the marks that are due, it is there at every moment of
+/// every run, and a write-out, a finish, a settle, a vanish and a loss never need memory for a mark. It does nothing.
+pub fn law_of_mark_room()
+    ensures noted { EachStepKeepsNotedMembers }
+    ensures step { EachStepRecordsMarksThatAreDue }
+    ensures run { EveryRunKeepsRoomForMarks }
+    ensures mark { EveryMarkHasItsRoom }
+{}
+
+/// No completed call is lost but by a rollback, or with its client: in each step of every run, a client that is live and
+/// not fallen before and after it has all its recorded and pending calls still, in their order. A read that is answered
+/// a value, and a write that is answered Ok, stand behind them. It does nothing.
+pub fn law_of_own_lists()
+    ensures pending { EachStepKeepsPendingCalls }
+    ensures step { EachStepKeepsOwnLists }
+    ensures run { EveryRunKeepsOwnLists }
+    ensures read { EachReadIsAdded }
+    ensures write { EachWriteIsAdded }
+{}
+
+/// Behind a serve a client that is not fallen holds no page that another client asks to write, and may write no page
+/// that another asks for. It does nothing.
+pub fn law_of_recalls()
+    ensures step { EachServeMeetsTheAsks }
+    ensures run { EveryServeMeetsTheAsks }
 {}
 
 /// At every moment of every run, for every order of events and whatever the outside does, the completed reads and

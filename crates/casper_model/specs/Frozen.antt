@@ -6,7 +6,7 @@ use Rattle.casper_trail.specs.declared.item.Item.{Item}
 use Rattle.casper_trail.specs.Value.{is_write, writes_page}
 use Rattle.casper_trail.specs.Parts.{open_entries}
 use Rattle.casper_trail.specs.Association.{association_of}
-use Rattle.casper_model.specs.Rising.{rising}
+use Rattle.casper_space.specs.Rising.{rising}
 use Rattle.casper_model.specs.Shared.{Shared}
 use Rattle.casper_model.specs.Stabilisation.{Stabilisation}
 

@@ -23,7 +23,6 @@ pub mod Opening
 pub mod Outside
 pub mod Own
 pub mod Rights
-pub mod Rising
 pub mod Room
 pub mod RoomLaw
 pub mod Row

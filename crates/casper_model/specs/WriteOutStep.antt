@@ -10,7 +10,8 @@ use Rattle.casper_model.specs.Shared.{Shared}
 use Rattle.casper_model.specs.Frozen.{members_of, pages_modified_by}
 use Rattle.casper_model.specs.Finish.{finish, settled, doubtful_of}
 use Rattle.casper_model.specs.Outside.{Outside, is_settle_failed}
-use Rattle.casper_model.specs.Vault.{Change, commit, settled_vault}
+use Rattle.casper_space.specs.Changes.{Change}
+use Rattle.casper_model.specs.Vault.{commit, settled_vault}
 use Rattle.casper_model.specs.State.{State, Unfinished}
 use Rattle.casper_model.specs.Answers.{of_write_out, of_finish}
 use Rattle.casper_model.specs.Turn.{Turn, guarded}

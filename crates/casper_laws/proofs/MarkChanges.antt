@@ -1,0 +1,170 @@
+use Rattle.std.proofs.Common.{◌≡◌, ◌≤◌, ◌<◌, ℕ, ◌+◌, true, false, cond, not, ◌==◌, map, length, Contains, refl, sym, ap, ◌∙◌, subst, arith, eq-eqb}
+use Rattle.std.specs.Prelude.{Option, None, Some}
+use Rattle.std.proofs.lemmas.Bool.{cond_both, cond-true}
+use Rattle.std.proofs.lemmas.List.{length-map}
+use Rattle.std.proofs.lemmas.List.Sums.{sum_by-set}
+use Rattle.casper_words.specs.Crew.{IsClient, has_member}
+use Rattle.casper_trail.specs.declared.mark.Mark.TheVariants.{Commit, Rollback}
+use Rattle.casper_trail.specs.Association.{association_of}
+use Rattle.casper_trail.proofs.Rounds.{association_holds_its_client, association_of_a_member}
+use Rattle.casper_model.specs.declared.outcome.Outcome.{Outcome}
+use Rattle.casper_model.specs.declared.outcome.Outcome.TheVariants as outcome
+use Rattle.casper_model.specs.declared.outcome.Kept.{Kept}
+use Rattle.casper_model.specs.declared.reply.Loss.{Loss}
+use Rattle.casper_model.specs.Client.{Client, Fallen}
+use Rattle.casper_model.specs.Own.{Own}
+use Rattle.casper_model.specs.Both.{Changed}
+use Rattle.casper_model.specs.Stabilisation.{Stabilisation, is_gathering, is_doubtful, without}
+use Rattle.casper_model.specs.Shared.{Shared, client_at, fallen_at, place_client}
+use Rattle.casper_model.specs.Frozen.{stabilisation_of, members_of}
+use Rattle.casper_model.specs.Leave.{absent, vanish, vanished_by}
+use Rattle.casper_model.specs.Loss.{lose, lose_by, lost_in, rolled_back, fallen_behind}
+use Rattle.casper_model.specs.Finish.{finish, finished_by, finished_as, failed, ended, committed, settled, settled_by, stabilisation_led_by, doubtful_of}
+use Rattle.casper_model.specs.Rights.{TurnStands}
+use Rattle.casper_model.proofs.OpeningRights.{IsUp}
+use Rattle.casper_model.proofs.TurnRights.{up_as_it_stands}
+use Rattle.casper_model.proofs.AcquireRights.{within_places}
+use Rattle.casper_model.proofs.LossRights.{spares_loss}
+use Rattle.casper_laws.specs.FrozenLaws.{AreFrozen}
+use Rattle.casper_laws.specs.MarkRoom.{spare_of, spare_at, spare_marks, MarksAreDue, NotedAreMembers}
+use Rattle.casper_laws.proofs.Lists.{find_found}
+use Rattle.casper_laws.proofs.MarkCounts.{marks_pushed, SparesNoMore, spares_changed, spares_fewer, some_no_longer, one_shorter}
+
+-- no more marks are recorded than are no longer due
+abbrev pub RecordsNoMore : Shared → Shared → Type 0
+RecordsNoMore shared after = MarksAreDue false shared after
+
+pub records_nothing : (shared : Shared) → RecordsNoMore shared shared
+records_nothing shared = omega arith
+
+-- a rollback
+module _ (shared : Shared) (lost : ℕ) where
+  no_more_spare : SparesNoMore (λ who client. cond (has_member who (association_of shared.trail lost)) (fallen_behind shared.trail who client) client)
+  no_more_spare who client =
+      cond_both (has_member who (association_of shared.trail lost)) (fallen_behind shared.trail who client) client
+      (λ (after : Client). spare_of after.fallen ≤ spare_of client.fallen) (λ falls. omega arith) (λ stays. omega arith)
+
+  -- that fells a client which had not fallen
+  fells_its_client : IsClient lost → IsUp shared lost → RecordsNoMore shared (rolled_back shared lost)
+  fells_its_client is up =
+      let members = association_of shared.trail lost in
+      let change : ℕ → Client → Client = λ who client. cond (has_member who members) (fallen_behind shared.trail who client) client in
+      let zero_on : 0 + lost ≡ lost = omega arith in
+      let mine : has_member (0 + lost) members ≡ true = ap (λ n. has_member n members) zero_on ∙ association_holds_its_client shared.trail lost is in
+      let falls : spare_of (change (0 + lost) up.client).fallen ≡ 0 =
+      ap (λ (client : Client). spare_of client.fallen)
+      (cond-true (has_member (0 + lost) members) (fallen_behind shared.trail (0 + lost) up.client) up.client mine) in
+      let spares : spare_marks (rolled_back shared lost) + 1 ≤ spare_marks shared = spares_fewer change no_more_spare 0 shared.clients lost up.client up.live up.up falls in
+      let left = some_no_longer (λ (one : Stabilisation). not (has_member one.lead members)) shared.stabilisations in
+      let marks = marks_pushed shared.trail (Rollback lost members) in
+      omega (arith, spares, left, marks)
+
+  -- that ends a stabilisation
+  ends_its_stabilisation : (one : Stabilisation) → Contains shared.stabilisations one → has_member one.lead (association_of shared.trail lost) ≡ true
+      → RecordsNoMore shared (rolled_back shared lost)
+  ends_its_stabilisation one inside member =
+      let members = association_of shared.trail lost in
+      let change : ℕ → Client → Client = λ who client. cond (has_member who members) (fallen_behind shared.trail who client) client in
+      let spares : spare_marks (rolled_back shared lost) ≤ spare_marks shared = spares_changed change no_more_spare 0 shared.clients in
+      let left = one_shorter (λ (other : Stabilisation). not (has_member other.lead members)) shared.stabilisations one inside (ap not member) in
+      let marks = marks_pushed shared.trail (Rollback lost members) in
+      omega (arith, spares, left, marks)
+
+-- a stabilisation that ends
+spares_ended : (shared : Shared) (one : Stabilisation) (kept : Kept) → spare_marks (ended shared one kept) ≤ spare_marks shared
+spares_ended shared one kept =
+    spares_changed (λ who client. cond (has_member who one.askers) (record client { kept = Some kept }) client)
+    (λ who client.
+    cond_both (has_member who one.askers) (record client { kept = Some kept }) client (λ (after : Client). spare_of after.fallen ≤ spare_of client.fallen)
+    (λ asker. omega arith) (λ other. omega arith))
+    0 shared.clients
+
+ended_records : (shared : Shared) (one : Stabilisation) (kept : Kept) → RecordsNoMore shared (ended shared one kept)
+ended_records shared one kept =
+    let spares = spares_ended shared one kept in
+    let left = some_no_longer (λ (other : Stabilisation). not (other.lead == one.lead)) shared.stabilisations in
+    omega (arith, spares, left)
+
+committed_records : (shared : Shared) (one : Stabilisation) → Contains shared.stabilisations one → RecordsNoMore shared (committed shared one).shared
+committed_records shared one inside =
+    let spares : spare_marks (committed shared one).shared ≤ spare_marks shared = spares_ended shared one _ in
+    let left = one_shorter (λ (other : Stabilisation). not (other.lead == one.lead)) shared.stabilisations one inside (ap not (eq-eqb one.lead one.lead refl)) in
+    let marks = marks_pushed shared.trail (Commit one.lead (members_of shared one)) in
+    omega (arith, spares, left, marks)
+
+-- where a loss was noted, its rollback ends the stabilisation, which had the room of its final mark
+failed_records : (shared : Shared) (one : Stabilisation) (cause : Outcome) (noted : Option ℕ) → one.noted ≡ noted → AreFrozen shared → NotedAreMembers shared
+    → Contains shared.stabilisations one → RecordsNoMore shared (failed shared one cause noted).shared
+failed_records shared one cause None e frozen members inside = ended_records shared one _
+failed_records shared one cause (Some lost) e frozen members inside =
+    ends_its_stabilisation shared lost one inside
+    (ap (has_member one.lead) (association_of_a_member shared.trail one.lead lost (members one lost inside e))
+    ∙ association_holds_its_client shared.trail one.lead (frozen.leads one inside))
+
+-- changes of the stabilisations alone
+relabelled_records : (shared : Shared) (change : Stabilisation → Stabilisation) → RecordsNoMore shared (record shared { stabilisations = map change shared.stabilisations })
+relabelled_records shared change = let same = length-map shared.stabilisations change in omega (arith, same)
+
+finished_records : (shared : Shared) (one : Stabilisation) (how : Outcome) → AreFrozen shared → NotedAreMembers shared → Contains shared.stabilisations one
+    → RecordsNoMore shared (finished_as shared one how).shared
+finished_records shared one (outcome.Ok version) frozen members inside = committed_records shared one inside
+finished_records shared one (outcome.Full need free) frozen members inside = failed_records shared one (outcome.Full need free) one.noted refl frozen members inside
+finished_records shared one outcome.Worn frozen members inside = failed_records shared one outcome.Worn one.noted refl frozen members inside
+finished_records shared one outcome.Disk frozen members inside = failed_records shared one outcome.Disk one.noted refl frozen members inside
+finished_records shared one outcome.Doubt frozen members inside = relabelled_records shared _
+
+pub finish_records : (shared : Shared) (lead : ℕ) (how : Outcome) → AreFrozen shared → NotedAreMembers shared → RecordsNoMore shared (finish shared lead how).shared
+finish_records shared lead how frozen members = by_found (stabilisation_led_by shared lead) refl
+  where
+    by_found : (one : Option Stabilisation) → stabilisation_led_by shared lead ≡ one → RecordsNoMore shared (finished_by shared how one).shared
+    by_found None e = records_nothing shared
+    by_found (Some one) e =
+        finished_records shared one how frozen members (find_found (λ (x : Stabilisation). x.lead == lead) shared.stabilisations one e).0
+
+pub settled_records : (shared : Shared) → RecordsNoMore shared (settled shared).shared
+settled_records shared = by_found (doubtful_of shared) refl
+  where
+    by_found : (one : Option Stabilisation) → doubtful_of shared ≡ one → RecordsNoMore shared (settled_by shared one).shared
+    by_found None e = records_nothing shared
+    by_found (Some one) e = committed_records shared one (find_found (λ (x : Stabilisation). is_doubtful x.phase) shared.stabilisations one e).0
+
+-- a loss
+lost_records : (shared : Shared) (who unrecorded : ℕ) → IsClient who → IsUp shared who → (one : Option Stabilisation)
+    → RecordsNoMore shared (lost_in shared who unrecorded one).shared
+lost_records shared who unrecorded is up None = fells_its_client shared who is up
+lost_records shared who unrecorded is up (Some one) =
+    cond_both (is_gathering one.phase) _ _ (λ (done : Changed Loss). RecordsNoMore shared done.shared) (λ gathering. fells_its_client shared who is up)
+    (λ held. relabelled_records shared _)
+
+lose_by_records : (shared : Shared) (who : ℕ) → IsClient who → (fallen : Option Fallen) → (fallen ≡ None → IsUp shared who)
+    → RecordsNoMore shared (lose_by shared who fallen).shared
+lose_by_records shared who is (Some fallen) up = records_nothing shared
+lose_by_records shared who is None up = lost_records shared who 0 is (up refl) (stabilisation_of shared who)
+
+pub lose_records : (shared : Shared) (who : ℕ) → IsClient who → (fallen_at shared who ≡ None → IsUp shared who) → RecordsNoMore shared (lose shared who).shared
+lose_records shared who is up = lose_by_records shared who is (fallen_at shared who) up
+
+-- a client that becomes absent has no spare mark
+absent_records : (shared before : Shared) (own : Own) → own.who < length before.clients → RecordsNoMore shared before
+    → RecordsNoMore shared (absent (record { shared = before; own = own })).shared
+absent_records shared before own below records =
+    let spares : spare_marks (place_client own.who None before) + spare_at (client_at before own.who) ≡ spare_marks before + 0 =
+    sum_by-set spare_at before.clients own.who None None below in
+    let same = length-map before.stabilisations (λ one. record one { askers = without own.who one.askers }) in
+    omega (arith, spares, same, records)
+
+vanished_records : (shared : Shared) (own : Own) → IsClient own.who → (fallen : Option Fallen) → (fallen ≡ None → IsUp shared own.who)
+    → RecordsNoMore shared (vanished_by shared own fallen).shared
+vanished_records shared own is (Some fallen) up = records_nothing shared
+vanished_records shared own is None up = lost_records shared own.who (length own.pending) is (up refl) (stabilisation_of shared own.who)
+
+places_vanished : (shared : Shared) (own : Own) (fallen : Option Fallen) → length (vanished_by shared own fallen).shared.clients ≡ length shared.clients
+places_vanished shared own (Some fallen) = refl
+places_vanished shared own None = (spares_loss shared own.who _).places
+
+pub vanish_records : (shared : Shared) (own : Own) → IsClient own.who → TurnStands shared own → RecordsNoMore shared (vanish shared own).shared
+vanish_records shared own is stands =
+    let fallen = fallen_at shared own.who in
+    absent_records shared (vanished_by shared own fallen).shared own
+    (subst (λ count. own.who < count) (sym (places_vanished shared own fallen)) (within_places shared own stands))
+    (vanished_records shared own is fallen (up_as_it_stands shared own stands))
