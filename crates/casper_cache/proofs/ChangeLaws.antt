@@ -1,10 +1,11 @@
 use Rattle.std.proofs.Common.{◌≡◌, ℕ, true, false, cond, not, List, [], ◌∷◌, ◌++◌, Option, Some, None, nat_eq, eq-eqb, refl, sym, ap, ◌∙◌, subst, ⊎_elim}
 use Rattle.std.proofs.lemmas.Bool.{ne_eqb, cases_eq}
 use Rattle.std.specs.Option.{option_map, option_to_list}
+use Rattle.casper_words.specs.declared.page.Right.{Right}
 use Rattle.casper_cache.specs.declared.held.Held.{Held}
-use Rattle.casper_cache.specs.Holding.{is_of, entry_of, others, with_word, lowered, for_reading}
-use Rattle.casper_cache.specs.Changes.{FrontKeepsEntries, WrittenChangesOne, LoweredChangesOne, OthersAreTheRest, OthersKeepTheirOrder}
-use Rattle.casper_cache.proofs.Entries.{entry_of-page, entry_of-others, entry_of-others_same, entry_of-lowered, others-absent}
+use Rattle.casper_cache.specs.Holding.{is_of, entry_of, others, with_word, graded, with_right}
+use Rattle.casper_cache.specs.Changes.{FrontKeepsEntries, WrittenChangesOne, GradedChangesOne, OthersAreTheRest, OthersKeepTheirOrder}
+use Rattle.casper_cache.proofs.Entries.{entry_of-page, entry_of-others, entry_of-others_same, entry_of-graded, others-absent}
 
 -- an entry of another page is not tested as the page's
 other_test : (page q : ℕ) (entry : Held) → entry.page ≡ q → (q ≡ page → ⊥) → is_of page entry ≡ false
@@ -63,8 +64,8 @@ front_keeps_entries page q held =
 pub written_changes_one : WrittenChangesOne
 written_changes_one page word value q held = changed_front (with_word word value) (λ _. refl) page q held
 
-pub lowered_changes_one : LoweredChangesOne
-lowered_changes_one page q held = entry_of-lowered page q held
+pub graded_changes_one : GradedChangesOne
+graded_changes_one right page q held = entry_of-graded right page q held
 
 pub others_are_the_rest : OthersAreTheRest
 others_are_the_rest page q held =
@@ -92,11 +93,11 @@ others-front change keeps page held =
           rw test (others-others page held)
     ]) refl
 
-others-lowered : (page : ℕ) (held : List Held) → others page (lowered page held) ≡ others page held
-others-lowered page [] = refl
-others-lowered page (x ∷ xs) =
-    let rest : others page (lowered page xs) ≡ others page xs = others-lowered page xs in
-    (elim (is_of page x) as (λ b. is_of page x ≡ b → others page (cond b (for_reading x) x ∷ lowered page xs) ≡ cond (not b) (x ∷ others page xs) (others page xs)) [
+others-graded : (right : Right) (page : ℕ) (held : List Held) → others page (graded right page held) ≡ others page held
+others-graded right page [] = refl
+others-graded right page (x ∷ xs) =
+    let rest : others page (graded right page xs) ≡ others page xs = others-graded right page xs in
+    (elim (is_of page x) as (λ b. is_of page x ≡ b → others page (cond b (with_right right x) x ∷ graded right page xs) ≡ cond (not b) (x ∷ others page xs) (others page xs)) [
       | true ↦ λ test. rw test rest
       | false ↦ λ test. rw test (ap (λ l. x ∷ l) rest)
     ]) refl
@@ -106,5 +107,5 @@ others_keep_their_order page held =
     let same : (o : Option Held) → option_map (λ (entry : Held). entry) o ≡ o = λ o. elim o as (λ o. option_map (λ (entry : Held). entry) o ≡ o) [ None ↦ refl | Some x ↦ refl ] in (
       ap (λ o. others page (option_to_list o ++ others page held)) (sym (same (entry_of page held))) ∙ others-front (λ entry. entry) (λ _. refl) page held,
       λ word value. others-front (with_word word value) (λ _. refl) page held,
-      others-lowered page held,
+      λ right. others-graded right page held,
     )

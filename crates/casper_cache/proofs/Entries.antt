@@ -3,8 +3,9 @@ use Rattle.std.specs.Option.{option_map, option_to_list}
 use Rattle.std.proofs.lemmas.Bool.{eqb-true, ne_eqb, cases_eq}
 use Rattle.std.proofs.lemmas.List.{drop_more, take_more, get_or-reverse, get_or-map, length-map, length-reverse}
 use Rattle.std.proofs.lemmas.Option.{slice_get-get_or, slice_get_read}
+use Rattle.casper_words.specs.declared.page.Right.{Right}
 use Rattle.casper_cache.specs.declared.held.Held.{Held}
-use Rattle.casper_cache.specs.Holding.{is_of, entry_of, word_of, others, front_of, written, with_word, for_reading, lowered, ArePagesDistinct}
+use Rattle.casper_cache.specs.Holding.{is_of, entry_of, word_of, others, front_of, written, with_word, with_right, graded, ArePagesDistinct}
 use Rattle.casper_cache.proofs.ListPlaces.{take_one-drop, take_one-drop-set, remove-set}
 
 -- what is found passes
@@ -112,27 +113,27 @@ written-at page word value held place entry distinct stands read =
     ap (λ o. option_to_list (option_map (with_word word value) o) ++ others page held) (sym (entry_of-at page held place entry stands read))
 
 -- a page that no entry is of stays as it is when it is lowered
-lowered-absent : (page : ℕ) (held : List Held) → entry_of page held ≡ None → lowered page held ≡ held
-lowered-absent page [] none = refl
-lowered-absent page (x ∷ xs) none =
-    (elim (is_of page x) as (λ b. cond b (Some x) (entry_of page xs) ≡ None → cond b (for_reading x) x ∷ lowered page xs ≡ x ∷ xs) [
+graded-absent : (right : Right) (page : ℕ) (held : List Held) → entry_of page held ≡ None → graded right page held ≡ held
+graded-absent right page [] none = refl
+graded-absent right page (x ∷ xs) none =
+    (elim (is_of page x) as (λ b. cond b (Some x) (entry_of page xs) ≡ None → cond b (with_right right x) x ∷ graded right page xs ≡ x ∷ xs) [
       | true ↦ λ h. cc
-      | false ↦ λ h. ap (λ l. x ∷ l) (lowered-absent page xs h)
+      | false ↦ λ h. ap (λ l. x ∷ l) (graded-absent right page xs h)
     ]) none
 
 -- the right to read written at the page's place
-pub lowered-at : (page : ℕ) (held : List Held) (place : ℕ) (entry : Held) →
-    ArePagesDistinct held → slice_get held place ≡ Some entry → entry.page ≡ page → set held place (for_reading entry) ≡ lowered page held
-lowered-at page [] place entry distinct at is = cc
-lowered-at page (x ∷ xs) zero entry distinct at is =
+pub graded-at : (right : Right) (page : ℕ) (held : List Held) (place : ℕ) (entry : Held) →
+    ArePagesDistinct held → slice_get held place ≡ Some entry → entry.page ≡ page → set held place (with_right right entry) ≡ graded right page held
+graded-at right page [] place entry distinct at is = cc
+graded-at right page (x ∷ xs) zero entry distinct at is =
     let same : x ≡ entry = cc in
     let here : x.page ≡ page = ap (λ (e : Held). e.page) same ∙ is in
     let test : is_of page x ≡ true = is_of-same page x here in
     let absent : entry_of page xs ≡ None = subst (λ q. entry_of q xs ≡ None) here distinct.0 in
-    rw (test, lowered-absent page xs absent) (ap (λ e. for_reading e ∷ xs) (sym same))
-lowered-at page (x ∷ xs) (suc place) entry distinct at is =
-    let rest : set xs place (for_reading entry) ≡ lowered page xs = lowered-at page xs place entry distinct.1 at is in
-    (elim (is_of page x) as (λ b. is_of page x ≡ b → x ∷ set xs place (for_reading entry) ≡ cond b (for_reading x) x ∷ lowered page xs) [
+    rw (test, graded-absent right page xs absent) (ap (λ e. with_right right e ∷ xs) (sym same))
+graded-at right page (x ∷ xs) (suc place) entry distinct at is =
+    let rest : set xs place (with_right right entry) ≡ graded right page xs = graded-at right page xs place entry distinct.1 at is in
+    (elim (is_of page x) as (λ b. is_of page x ≡ b → x ∷ set xs place (with_right right entry) ≡ cond b (with_right right x) x ∷ graded right page xs) [
       | true ↦ λ test.
           let here : x.page ≡ page = eqb-true x.page page test in
           absurd (found_at (is_of x.page) xs place entry at (is_of-same x.page entry (is ∙ sym here)) distinct.0)
@@ -206,28 +207,28 @@ pub distinct-written : (page word value : ℕ) (held : List Held) → ArePagesDi
 distinct-written page word value held distinct = distinct-changed_front (with_word word value) (λ _. refl) page held distinct
 
 -- lowering a page finds each page as before, with the right to read on that page
-pub entry_of-lowered : (page q : ℕ) (held : List Held) →
-    entry_of q (lowered page held) ≡ option_map (λ entry. cond (is_of page entry) (for_reading entry) entry) (entry_of q held)
-entry_of-lowered page q [] = refl
-entry_of-lowered page q (x ∷ xs) =
-    let rest = entry_of-lowered page q xs in
-    let same : is_of q (cond (is_of page x) (for_reading x) x) ≡ is_of q x =
-    elim (is_of page x) as (λ b. is_of q (cond b (for_reading x) x) ≡ is_of q x) [ true ↦ refl | false ↦ refl ] in
+pub entry_of-graded : (right : Right) (page q : ℕ) (held : List Held) →
+    entry_of q (graded right page held) ≡ option_map (λ entry. cond (is_of page entry) (with_right right entry) entry) (entry_of q held)
+entry_of-graded right page q [] = refl
+entry_of-graded right page q (x ∷ xs) =
+    let rest = entry_of-graded right page q xs in
+    let same : is_of q (cond (is_of page x) (with_right right x) x) ≡ is_of q x =
+    elim (is_of page x) as (λ b. is_of q (cond b (with_right right x) x) ≡ is_of q x) [ true ↦ refl | false ↦ refl ] in
     rw same
     (elim (is_of q x) as (λ b.
-    cond b (Some (cond (is_of page x) (for_reading x) x)) (entry_of q (lowered page xs)) ≡
-    option_map (λ entry. cond (is_of page entry) (for_reading entry) entry) (cond b (Some x) (entry_of q xs))) [
+    cond b (Some (cond (is_of page x) (with_right right x) x)) (entry_of q (graded right page xs)) ≡
+    option_map (λ entry. cond (is_of page entry) (with_right right entry) entry) (cond b (Some x) (entry_of q xs))) [
       | true ↦ refl
       | false ↦ rest
     ])
 
-pub distinct-lowered : (page : ℕ) (held : List Held) → ArePagesDistinct held → ArePagesDistinct (lowered page held)
-distinct-lowered page [] distinct = tt
-distinct-lowered page (x ∷ xs) distinct =
-    let change : Held → Held = λ entry. cond (is_of page entry) (for_reading entry) entry in
-    let same : (change x).page ≡ x.page = elim (is_of page x) as (λ b. (cond b (for_reading x) x).page ≡ x.page) [ true ↦ refl | false ↦ refl ] in
-    let absent : entry_of x.page (lowered page xs) ≡ None = entry_of-lowered page x.page xs ∙ ap (λ o. option_map change o) distinct.0 in
-    (subst (λ q. entry_of q (lowered page xs) ≡ None) (sym same) absent, distinct-lowered page xs distinct.1)
+pub distinct-graded : (right : Right) (page : ℕ) (held : List Held) → ArePagesDistinct held → ArePagesDistinct (graded right page held)
+distinct-graded right page [] distinct = tt
+distinct-graded right page (x ∷ xs) distinct =
+    let change : Held → Held = λ entry. cond (is_of page entry) (with_right right entry) entry in
+    let same : (change x).page ≡ x.page = elim (is_of page x) as (λ b. (cond b (with_right right x) x).page ≡ x.page) [ true ↦ refl | false ↦ refl ] in
+    let absent : entry_of x.page (graded right page xs) ≡ None = entry_of-graded right page x.page xs ∙ ap (λ o. option_map change o) distinct.0 in
+    (subst (λ q. entry_of q (graded right page xs) ≡ None) (sym same) absent, distinct-graded right page xs distinct.1)
 
 -- the page and the others are at most all
 pub length-entry-others : (page : ℕ) (held : List Held) → length (option_to_list (entry_of page held)) + length (others page held) ≤ length held
@@ -267,8 +268,8 @@ evicted_more held back entry within read =
     take_more (reverse pages) back 0 (omega (arith, length-reverse pages)) ∙ ap (λ p. take back (reverse pages) ++ p ∷ []) here
 
 -- the right to read written at the page's place, by what was read there
-pub lowered-stands : (page : ℕ) (held : List Held) (place : ℕ) (entry : Held) → ArePagesDistinct held → StandsAt page held place →
-    entry ≡ get_or held place entry → set held place (for_reading entry) ≡ lowered page held
-lowered-stands page held place entry distinct stands read =
-    lowered-at page held place entry distinct (slice_get_read held (length held) place entry refl stands.within read)
+pub graded-stands : (right : Right) (page : ℕ) (held : List Held) (place : ℕ) (entry : Held) → ArePagesDistinct held → StandsAt page held place →
+    entry ≡ get_or held place entry → set held place (with_right right entry) ≡ graded right page held
+graded-stands right page held place entry distinct stands read =
+    graded-at right page held place entry distinct (slice_get_read held (length held) place entry refl stands.within read)
     (entry_of-page page held entry (entry_of-at page held place entry stands read))

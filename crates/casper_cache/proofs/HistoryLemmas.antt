@@ -3,11 +3,13 @@ use Rattle.std.specs.List.{list_any}
 use Rattle.std.proofs.lemmas.Bool.{ne_eqb, eqb-false, cases_eq}
 use Rattle.std.specs.Option.{option_map}
 use Rattle.casper_words.specs.declared.call.Call.{Call}
+use Rattle.casper_words.specs.declared.page.Right.{Right}
+use Rattle.casper_words.specs.declared.page.Right.TheVariants as may
 use Rattle.casper_cache.specs.declared.held.Held.{Held}
-use Rattle.casper_cache.specs.Holding.{is_of, entry_of, with_word, for_reading}
+use Rattle.casper_cache.specs.Holding.{is_of, entry_of, with_word, with_right, graded}
 use Rattle.casper_cache.specs.Own.{Own}
-use Rattle.casper_cache.specs.History.{Step, installed, read_hit, write_hit, fronted, given_up, allowed, pending_cleared, cleared, after, after_all, is_install, with_write, with_writes, WordsAreAsWritten}
-use Rattle.casper_cache.proofs.Entries.{entry_of-page, entry_of-others, entry_of-lowered}
+use Rattle.casper_cache.specs.History.{Step, installed, read_hit, write_hit, fronted, given_up, allowed, pending_cleared, cleared, after, raised_up, after_all, is_install, with_write, with_writes, WordsAreAsWritten}
+use Rattle.casper_cache.proofs.Entries.{entry_of-page, entry_of-others, entry_of-graded}
 use Rattle.casper_cache.proofs.ChangeLaws.{front_keeps_entries, written_changes_one, others_are_the_rest}
 
 -- an entry, if there is one, has these words
@@ -20,8 +22,8 @@ kept : (change : Held → Held) → ((entry : Held) → (change entry).words ≡
 kept change keeps None words has = tt
 kept change keeps (Some x) words has = keeps x ∙ has
 
-lowered_words : (page : ℕ) (entry : Held) → (cond (is_of page entry) (for_reading entry) entry).words ≡ entry.words
-lowered_words page entry = elim (is_of page entry) as (λ b. (cond b (for_reading entry) entry).words ≡ entry.words) [ true ↦ refl | false ↦ refl ]
+graded_words : (right : Right) (page : ℕ) (entry : Held) → (cond (is_of page entry) (with_right right entry) entry).words ≡ entry.words
+graded_words right page entry = elim (is_of page entry) as (λ b. (cond b (with_right right entry) entry).words ≡ entry.words) [ true ↦ refl | false ↦ refl ]
 
 -- a write on a page writes into its words, and no others
 wrote : (call : Call) (page : ℕ) (held : List Held) (words : List ℕ) → HasWords (entry_of page held) words →
@@ -47,6 +49,12 @@ wrote call page held words =
           (cases_eq call.page page)
     ]) refl
 
+-- another right to a page leaves its words
+graded_keeps : (right : Right) (page q : ℕ) (held : List Held) (words : List ℕ) → HasWords (entry_of page held) words →
+    HasWords (entry_of page (graded right q held)) words
+graded_keeps right page q held words has =
+    rw (entry_of-graded right q page held) (kept (λ (entry : Held). cond (is_of q entry) (with_right right entry) entry) (graded_words right q) (entry_of page held) words has)
+
 -- one step that does not install the page
 step_keeps : (page : ℕ) (step : Step) (own : Own) (words : List ℕ) → is_install page step ≡ false → HasWords (entry_of page own.held) words →
     HasWords (entry_of page (after step own).held) (with_write page step words)
@@ -57,11 +65,11 @@ step_keeps page (read_hit call) own words other has = rw (front_keeps_entries ca
 step_keeps page (write_hit call) own words other has =
     rw (written_changes_one call.page call.word call.value page own.held) (wrote call page own.held words has)
 step_keeps page (fronted q) own words other has = rw (front_keeps_entries q page own.held) has
-step_keeps page (given_up q true) own words other has =
-    rw (entry_of-lowered q page own.held) (kept (λ (entry : Held). cond (is_of q entry) (for_reading entry) entry) (lowered_words q) (entry_of page own.held) words has)
+step_keeps page (given_up q true) own words other has = graded_keeps may.Read page q own.held words has
 step_keeps page (given_up q false) own words other has =
     rw (others_are_the_rest q page own.held)
     (elim (eqb page q) as (λ b. HasWords (cond b None (entry_of page own.held)) words) [ true ↦ tt | false ↦ has ])
+step_keeps page (raised_up q) own words other has = graded_keeps may.Write page q own.held words has
 step_keeps page (allowed cap) own words other has = has
 step_keeps page pending_cleared own words other has = has
 step_keeps page cleared own words other has = tt

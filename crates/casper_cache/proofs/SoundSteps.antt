@@ -1,11 +1,12 @@
 use Rattle.std.proofs.lemmas.List.{length-map}
 use Rattle.std.proofs.Common.{◌≡◌, ℕ, suc, ◌+◌, ◌<◌, ◌≤◌, List, [], ◌∷◌, ◌++◌, Some, None, IsNone, length, refl, arith, length-append}
 use Rattle.std.specs.Option.{option_map, option_to_list}
+use Rattle.casper_words.specs.declared.page.Right.{Right}
 use Rattle.casper_words.specs.declared.call.Call.{Call}
 use Rattle.casper_cache.specs.declared.held.Held.{Held}
-use Rattle.casper_cache.specs.Holding.{entry_of, right_of, others, front_of, written, with_word, lowered, ArePagesDistinct}
+use Rattle.casper_cache.specs.Holding.{entry_of, right_of, others, front_of, written, with_word, graded, ArePagesDistinct}
 use Rattle.casper_cache.specs.Own.{Own, room_of, after_read, after_write, IsSound}
-use Rattle.casper_cache.proofs.Entries.{distinct-others, distinct-in_front, distinct-front_of, distinct-written, distinct-lowered, length-entry-others}
+use Rattle.casper_cache.proofs.Entries.{distinct-others, distinct-in_front, distinct-front_of, distinct-written, distinct-graded, length-entry-others}
 
 -- other held pages keep a cache sound, where they are distinct and few enough
 pub sound-held : (own : Own) (held : List Held) → IsSound own → ArePagesDistinct held → length held ≤ own.capacity + 4 →
@@ -28,11 +29,11 @@ sound-call own call sound room = record {
   most = sound.most;
 }
 
-length-front_of : (page : ℕ) (held : List Held) → length (front_of page held) ≤ length held
+pub length-front_of : (page : ℕ) (held : List Held) → length (front_of page held) ≤ length held
 length-front_of page held =
     omega (arith, length-append (option_to_list (entry_of page held)) (others page held), length-entry-others page held)
 
-length-written : (page word value : ℕ) (held : List Held) → length (written page word value held) ≤ length held
+pub length-written : (page word value : ℕ) (held : List Held) → length (written page word value held) ≤ length held
 length-written page word value held =
     let same : length (option_to_list (option_map (with_word word value) (entry_of page held))) ≡ length (option_to_list (entry_of page held)) =
     elim (entry_of page held) as (λ o. length (option_to_list (option_map (with_word word value) o)) ≡ length (option_to_list o)) [ None ↦ refl | Some entry ↦ refl ] in
@@ -71,7 +72,7 @@ sound-without own page sound =
     sound-held own (others page own.held) sound (distinct-others page own.held sound.distinct)
     (omega (arith, length-entry-others page own.held, sound.few))
 
-pub sound-lowered : (own : Own) (page : ℕ) → IsSound own → IsSound (record own { held = lowered page own.held })
-sound-lowered own page sound =
-    sound-held own (lowered page own.held) sound (distinct-lowered page own.held sound.distinct)
+pub sound-graded : (own : Own) (right : Right) (page : ℕ) → IsSound own → IsSound (record own { held = graded right page own.held })
+sound-graded own right page sound =
+    sound-held own (graded right page own.held) sound (distinct-graded right page own.held sound.distinct)
     (rw length-map sound.few)

@@ -1,7 +1,8 @@
 use Rattle.std.specs.Prelude.{◌≡◌, ℕ, ◌==◌, if◌then◌else◌, List, None}
 use Rattle.std.specs.Option.{option_map}
+use Rattle.casper_words.specs.declared.page.Right.{Right}
 use Rattle.casper_cache.specs.declared.held.Held.{Held}
-use Rattle.casper_cache.specs.Holding.{is_of, entry_of, others, front_of, written, with_word, lowered, for_reading}
+use Rattle.casper_cache.specs.Holding.{is_of, entry_of, others, front_of, written, with_word, graded, with_right}
 
 -- bringing a page to the front changes the entry of no page
 abbrev pub FrontKeepsEntries : Type 0
@@ -14,11 +15,11 @@ WrittenChangesOne =
     entry_of q (written page word value held) ≡
     option_map (λ entry. if is_of page entry then with_word word value entry else entry) (entry_of q held)
 
--- lowering changes the right to its page, and the entry of no other
-abbrev pub LoweredChangesOne : Type 0
-LoweredChangesOne =
-    (page q : ℕ) (held : List Held) →
-    entry_of q (lowered page held) ≡ option_map (λ entry. if is_of page entry then for_reading entry else entry) (entry_of q held)
+-- lowering or raising changes the right to its page, and the entry of no other
+abbrev pub GradedChangesOne : Type 0
+GradedChangesOne =
+    (right : Right) (page q : ℕ) (held : List Held) →
+    entry_of q (graded right page held) ≡ option_map (λ entry. if is_of page entry then with_right right entry else entry) (entry_of q held)
 
 -- the others are all but the page, each with its entry
 abbrev pub OthersAreTheRest : Type 0
@@ -30,4 +31,4 @@ OthersKeepTheirOrder =
     (page : ℕ) (held : List Held) →
     (others page (front_of page held) ≡ others page held) ×
     ((word value : ℕ) → others page (written page word value held) ≡ others page held) ×
-    (others page (lowered page held) ≡ others page held)
+    ((right : Right) → others page (graded right page held) ≡ others page held)

@@ -2,7 +2,7 @@ use Rattle.std.specs.Prelude.{◌≡◌, ℕ, Bool, false, ◌==◌, if◌then�
 use Rattle.std.specs.List.{list_any}
 use Rattle.casper_words.specs.declared.call.Call.{Call}
 use Rattle.casper_cache.specs.declared.held.Held.{Held}
-use Rattle.casper_cache.specs.Holding.{words_of, others, front_of, lowered}
+use Rattle.casper_cache.specs.Holding.{words_of, others, front_of, lowered, raised}
 use Rattle.casper_cache.specs.Own.{Own, after_read, after_write}
 
 -- one thing that happens to a cache
@@ -12,6 +12,7 @@ pub data Step : Type 0 where
   write_hit : Call → Step
   fronted : ℕ → Step
   given_up : ℕ → Bool → Step
+  raised_up : ℕ → Step
   allowed : ℕ → Step
   pending_cleared : Step
   cleared : Step
@@ -23,6 +24,7 @@ after (read_hit call) own = after_read own call
 after (write_hit call) own = after_write own call
 after (fronted page) own = record own { held = front_of page own.held }
 after (given_up page keep) own = record own { held = (if keep then lowered page own.held else others page own.held) }
+after (raised_up page) own = record own { held = raised page own.held }
 after (allowed cap) own = record own { cap = cap }
 after pending_cleared own = record own { pending = [] }
 after cleared own = record own { held = []; pending = [] }

@@ -1,7 +1,7 @@
 use Rattle.std.specs.Prelude.{◌≡◌, ℕ, Bool, ◌==◌, not, if◌then◌else◌, List, [], ◌∷◌, ◌++◌, Option, None, filter, find, map, slice_set, slice_index, unwrap_or}
 use Rattle.std.specs.Option.{option_map, option_to_list}
 use Rattle.casper_words.specs.declared.page.Right.{Right}
-use Rattle.casper_words.specs.declared.page.Right.TheVariants.{Read}
+use Rattle.casper_words.specs.declared.page.Right.TheVariants.{Read, Write}
 use Rattle.casper_cache.specs.declared.held.Held.{Held}
 
 -- whether this is the entry of a page
@@ -41,13 +41,20 @@ abbrev pub written : ℕ → ℕ → ℕ → List Held → List Held
 written page word value held =
     option_to_list (option_map (with_word word value) (entry_of page held)) ++ others page held
 
--- the entry with the right to read
-abbrev pub for_reading : Held → Held
-for_reading entry = record entry { right = Read }
+-- the entry with this right
+abbrev pub with_right : Right → Held → Held
+with_right right entry = record entry { right = right }
 
--- the page held for reading, every entry in its place
+-- the page held with this right, every entry in its place
+abbrev pub graded : Right → ℕ → List Held → List Held
+graded right page held = map (λ entry. if is_of page entry then with_right right entry else entry) held
+
+-- the page held for reading, and for writing
 abbrev pub lowered : ℕ → List Held → List Held
-lowered page held = map (λ entry. if is_of page entry then for_reading entry else entry) held
+lowered page held = graded Read page held
+
+abbrev pub raised : ℕ → List Held → List Held
+raised page held = graded Write page held
 
 -- no page stands twice
 abbrev pub ArePagesDistinct : List Held → Type 0

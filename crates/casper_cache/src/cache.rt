@@ -1,7 +1,7 @@
 ghost use Rattle.std.specs.Prelude.{◌≡◌, ◌+◌, ◌-◌, ◌<◌, ◌≤◌, ◌↔◌, ◌∷◌, ◌++◌, [], length, map, take, reverse, slice_index, unwrap_or, Some, IsSome, IsNone, IsTrue, IsOk, IfSome, IfNone, IfOk, OnOk, OnErr, IfErr, if◌then◌else◌};
 ghost use Rattle.std.specs.Bool.{OnTrue, OnFalse};
 ghost use Rattle.std.specs.Option.{option_copied};
-ghost use Rattle.casper_cache.specs.Holding.{right_of, words_of, word_of, others, front_of, lowered};
+ghost use Rattle.casper_cache.specs.Holding.{right_of, words_of, word_of, others, front_of, lowered, raised};
 ghost use Rattle.casper_cache.specs.Own.{room_of, CanRead, CanWrite, after_read, after_write, IsSound};
 
 use crate::held::Held;
@@ -227,6 +227,19 @@ impl Cache {
         } else {
             let _given = self.held.remove(place);
         }
+    }
+
+    /// Lets a held page be written, in its place.
+    pub fn raise(&mut self, page: Page)
+        requires { IsSome (right_of page self.old.held) }
+        ensures raised { self.new ≡ record self.old { held = raised page self.old.held } }
+        ensures sound { IsSound self.new }
+    {
+        let Some(place) = place_of(&self.held, page) else {
+            return;
+        };
+        let entry = &mut self.held[place];
+        entry.right = Right::Write;
     }
 
     /// How many more pages are held than the capacity, or 0.

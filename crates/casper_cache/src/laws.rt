@@ -1,11 +1,11 @@
-ghost use Rattle.casper_cache.specs.Changes.{FrontKeepsEntries, WrittenChangesOne, LoweredChangesOne, OthersAreTheRest, OthersKeepTheirOrder};
+ghost use Rattle.casper_cache.specs.Changes.{FrontKeepsEntries, WrittenChangesOne, GradedChangesOne, OthersAreTheRest, OthersKeepTheirOrder};
 ghost use Rattle.casper_cache.specs.History.{WordsAreAsWritten};
 
 /// What each change of the held pages leaves of every page, and of their order.
 pub fn change_laws()
     ensures front { FrontKeepsEntries }
     ensures written { WrittenChangesOne }
-    ensures lowered { LoweredChangesOne }
+    ensures graded { GradedChangesOne }
     ensures others { OthersAreTheRest }
     ensures order { OthersKeepTheirOrder }
 {}
