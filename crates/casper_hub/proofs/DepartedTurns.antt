@@ -1,0 +1,186 @@
+use Rattle.std.proofs.Common.{◌≡◌, ◌<◌, ℕ, List, [], length, map, length-set, get_or-set_same, get_or-set_other, refl, sym, ap, ◌∙◌, subst, arith}
+use Rattle.std.specs.Prelude.{Option, None, Some, option_map}
+use Rattle.casper_words.specs.declared.page.Want.{Want}
+use Rattle.casper_trail.specs.declared.item.Item.{Item}
+use Rattle.casper_dir.specs.Rights.{right_at}
+use Rattle.casper_dir.specs.declared.holders.Holders.{Holders}
+use Rattle.casper_cache.specs.Own as cache
+use Rattle.casper_model.specs.declared.reply.Served.TheVariants as served
+use Rattle.casper_model.specs.Client.{Client, Fallen}
+use Rattle.casper_model.specs.Stabilisation.{Stabilisation, without}
+use Rattle.casper_model.specs.Shared.{Shared, client_at, fallen_at}
+use Rattle.casper_model.specs.Own.{Own, blank}
+use Rattle.casper_model.specs.Both.{Both}
+use Rattle.casper_model.specs.Opening.{opened}
+use Rattle.casper_model.specs.Acquire as acquiring
+use Rattle.casper_model.specs.Leave.{depart, departed_by, absent}
+use Rattle.casper_model.proofs.Places.{client_placed, client_unplaced, client_changed, client_unchanged}
+use Rattle.casper_model.proofs.OpeningRights.{places_changed}
+use Rattle.casper_hub.specs.HubView.{HubView, ClientView, client_in, with_asks}
+use Rattle.casper_hub.specs.Shows.{Shows, ShowsClient}
+use Rattle.casper_hub.specs.Sound.{IsSound}
+use Rattle.casper_hub.specs.Owned.{own_of, Owns}
+use Rattle.casper_hub.specs.Stages.{Opens, Leaves, Refuses}
+use Rattle.casper_hub.specs.Turns.{IsTurn}
+use Rattle.casper_hub.proofs.Showing.{fallen_shown}
+use Rattle.casper_hub.proofs.OpenedTurns.{own_opened}
+use Rattle.casper_hub.proofs.ShownAfter.{shows_after}
+use Rattle.casper_hub.proofs.ServedTurns.{place_within, opened_shows}
+
+-- the client of the machine's opening
+pub client_of_opening : (shared : Shared) (hub : HubView) (own : cache.Own) → Shows shared hub → IsSound hub → Owns hub own → (opened shared (own_of own)).own.who ≡ own.client
+client_of_opening shared hub own shows sound owns = ap (λ (o : Own). o.who) (own_opened shared hub own shows sound owns)
+
+-- the places of a hub behind an opening
+pub places_of_opening : (who : ℕ) (hub : HubView) (own : cache.Own) (opened : HubView) (opened_own : cache.Own) → Opens who hub own opened opened_own
+    → length opened.clients ≡ length hub.clients
+places_of_opening who hub own opened opened_own opens = ap (λ (h : HubView). length h.clients) opens.hub_is ∙ length-set hub.clients who _
+
+-- a client that becomes absent is shown as absent
+absent_shows : (shared : Shared) (hub : HubView) (own : cache.Own) (after : HubView) (own_after : cache.Own) → Shows shared hub → IsSound hub → Owns hub own
+    → (leaves : Leaves own.client hub own after own_after) → IsSound leaves.opened → Shows (absent (opened shared (own_of own))).shared after
+absent_shows shared hub own after own_after shows sound owns leaves sound_opened =
+    shows_after own.client both.shared (absent both).shared leaves.opened after shows_opened sound_opened
+    (record {
+      trail = shows_opened.trail ∙ sym (ap (λ (h : HubView). h.trail) leaves.hub_is);
+      limit = refl;
+      limit_too = ap (λ (h : HubView). h.limit) leaves.hub_is;
+      pages = refl;
+      pages_too = leaves.gives.rights_count;
+      stabilisations = ap (map forget) none ∙ sym none;
+      stabilisations_too = ap (λ (h : HubView). h.stabilisations) leaves.hub_is;
+      places = length-set both.shared.clients both.own.who None;
+      clients = λ other apart. client_unplaced both.own.who None both.shared other (λ is. apart (is ∙ who));
+      clients_too = λ other apart. ap (λ (h : HubView). client_in h other) leaves.hub_is ∙ get_or-set_other leaves.opened.clients own.client other None None apart;
+      rights = λ other page is apart. leaves.gives.others other page is apart;
+    })
+    acting
+  where
+    both : Both
+    both = opened shared (own_of own)
+
+    who : both.own.who ≡ own.client
+    who = client_of_opening shared hub own shows sound owns
+
+    forget : Stabilisation → Stabilisation
+    forget one = record one { askers = without both.own.who one.askers }
+
+    shows_opened : Shows both.shared leaves.opened
+    shows_opened = opened_shows shared hub own own.held leaves.opened leaves.opened_own shows sound owns leaves.opens
+
+    none : both.shared.stabilisations ≡ []
+    none = shows_opened.stabilisations ∙ sound_opened.quiet
+
+    within : own.client < length leaves.opened.clients
+    within = subst (λ count. own.client < count) (sym (places_of_opening own.client hub own leaves.opened leaves.opened_own leaves.opens)) (place_within hub own sound owns)
+
+    there : client_at (absent both).shared own.client ≡ None
+    there =
+        ap (client_at (absent both).shared) (sym who)
+        ∙ client_placed both.own.who None both.shared
+        (subst (λ count. both.own.who < count) (sym shows_opened.places) (subst (λ n. n < 33) (sym who) (omega (arith, owns.client.1))))
+
+    here : client_in after own.client ≡ None
+    here = ap (λ (h : HubView). client_in h own.client) leaves.hub_is ∙ get_or-set_same leaves.opened.clients own.client None None within
+
+    acting : ShowsClient after.trail after.pages.rights own.client (client_at (absent both).shared own.client) (client_in after own.client)
+    acting =
+        subst (λ place. ShowsClient after.trail after.pages.rights own.client place (client_in after own.client)) (sym there)
+        (subst (λ shown. ShowsClient after.trail after.pages.rights own.client None shown) (sym here) tt)
+
+own_after_leaving : (shared : Shared) (hub : HubView) (own : cache.Own) (after : HubView) (own_after : cache.Own) → Shows shared hub → IsSound hub → Owns hub own
+    → Leaves own.client hub own after own_after → own_of own_after ≡ (absent (opened shared (own_of own))).own
+own_after_leaving shared hub own after own_after shows sound owns leaves =
+    ap own_of leaves.own_is ∙ sym (ap (λ (o : Own). blank o.who o.capacity) (own_opened shared hub own shows sound owns))
+
+-- a turn in which a client departs is the machine's
+departed_turn : (shared : Shared) (hub : HubView) (own : cache.Own) (after : HubView) (own_after : cache.Own) → Shows shared hub → IsSound hub → Owns hub own
+    → (leaves : Leaves own.client hub own after own_after) → IsSound leaves.opened → (fallen : Option Fallen) → fallen ≡ None
+    → (served.Ok ≡ (departed_by shared (own_of own) fallen).reply) × Shows (departed_by shared (own_of own) fallen).shared after
+    × (own_of own_after ≡ (departed_by shared (own_of own) fallen).own)
+departed_turn shared hub own after own_after shows sound owns leaves sound_opened (Some fallen) up = cc
+departed_turn shared hub own after own_after shows sound owns leaves sound_opened None up = (
+  refl,
+  absent_shows shared hub own after own_after shows sound owns leaves sound_opened,
+  own_after_leaving shared hub own after own_after shows sound owns leaves,
+)
+
+pub depart_turn : (hub : HubView) (own : cache.Own) (after : HubView) (own_after : cache.Own) → IsSound hub → Owns hub own
+    → (leaves : Leaves own.client hub own after own_after) → IsSound leaves.opened → IsTurn depart served.Ok hub own after own_after
+depart_turn hub own after own_after sound owns leaves sound_opened = record {
+  replies = λ shared shows. (turn shared shows).0;
+  shows = λ shared shows. (turn shared shows).1;
+  owns = λ shared shows. (turn shared shows).2;
+}
+  where
+    turn : (shared : Shared) → Shows shared hub
+        → (served.Ok ≡ (depart shared (own_of own)).reply) × Shows (depart shared (own_of own)).shared after × (own_of own_after ≡ (depart shared (own_of own)).own)
+    turn shared shows =
+        departed_turn shared hub own after own_after shows sound owns leaves sound_opened (fallen_at shared own.client) (fallen_shown shared hub shows sound own.client)
+
+-- the asks of a client replaced, as the machine has it and as its hub has it
+shown_with_asks : (trail : List Item) (rights : List Holders) (who : ℕ) (asks : List Want) (place : Option Client) (shown : Option ClientView)
+    → ShowsClient trail rights who place shown → ShowsClient trail rights who (option_map (λ (client : Client). record client { asks = asks }) place) (with_asks asks shown)
+shown_with_asks trail rights who asks None None shows = tt
+shown_with_asks trail rights who asks None (Some shown) shows = absurd shows
+shown_with_asks trail rights who asks (Some client) None shows = absurd shows
+shown_with_asks trail rights who asks (Some client) (Some shown) shows = record {
+  cap = shows.cap;
+  asks = refl;
+  kept = shows.kept;
+  fallen = shows.fallen;
+  rights = shows.rights;
+}
+
+-- behind a refusal a hub stands for the machine's opening with these asks
+pub refused_shows : (shared : Shared) (hub : HubView) (own : cache.Own) (asks : List Want) (after : HubView) (own_after : cache.Own) → Shows shared hub → IsSound hub → Owns hub own
+    → (refuses : Refuses own.client asks hub own after own_after) → IsSound refuses.opened → Shows (acquiring.with_asks asks (opened shared (own_of own))).shared after
+refused_shows shared hub own asks after own_after shows sound owns refuses sound_opened =
+    shows_after own.client both.shared (acquiring.with_asks asks both).shared refuses.opened after shows_opened sound_opened
+    (record {
+      trail = shows_opened.trail ∙ sym (ap (λ (h : HubView). h.trail) refuses.hub_is);
+      limit = refl;
+      limit_too = ap (λ (h : HubView). h.limit) refuses.hub_is;
+      pages = refl;
+      pages_too = ap (λ (h : HubView). length h.pages.rights) refuses.hub_is;
+      stabilisations = refl;
+      stabilisations_too = ap (λ (h : HubView). h.stabilisations) refuses.hub_is;
+      places = places_changed both.own.who change both.shared;
+      clients = λ other apart. client_unchanged both.own.who change both.shared other (λ is. apart (is ∙ who));
+      clients_too = λ other apart. ap (λ (h : HubView). client_in h other) refuses.hub_is
+          ∙ get_or-set_other refuses.opened.clients own.client other (with_asks asks (client_in refuses.opened own.client)) None apart;
+      rights = λ other page is apart. ap (λ (h : HubView). right_at h.pages.rights other page) refuses.hub_is;
+    })
+    acting
+  where
+    both : Both
+    both = opened shared (own_of own)
+
+    who : both.own.who ≡ own.client
+    who = client_of_opening shared hub own shows sound owns
+
+    change : Client → Client
+    change client = record client { asks = asks }
+
+    shows_opened : Shows both.shared refuses.opened
+    shows_opened = opened_shows shared hub own own.held refuses.opened own_after shows sound owns refuses.opens
+
+    within : own.client < length refuses.opened.clients
+    within = subst (λ count. own.client < count) (sym (places_of_opening own.client hub own refuses.opened own_after refuses.opens)) (place_within hub own sound owns)
+
+    there : client_at (acquiring.with_asks asks both).shared own.client ≡ option_map change (client_at both.shared own.client)
+    there =
+        ap (client_at (acquiring.with_asks asks both).shared) (sym who) ∙ client_changed both.own.who change both.shared ∙ ap (λ n. option_map change (client_at both.shared n)) who
+
+    here : client_in after own.client ≡ with_asks asks (client_in refuses.opened own.client)
+    here =
+        ap (λ (h : HubView). client_in h own.client) refuses.hub_is
+        ∙ get_or-set_same refuses.opened.clients own.client (with_asks asks (client_in refuses.opened own.client)) None within
+
+    acting : ShowsClient after.trail after.pages.rights own.client (client_at (acquiring.with_asks asks both).shared own.client) (client_in after own.client)
+    acting =
+        subst (λ place. ShowsClient after.trail after.pages.rights own.client place (client_in after own.client)) (sym there)
+        (subst (λ shown. ShowsClient after.trail after.pages.rights own.client (option_map change (client_at both.shared own.client)) shown) (sym here)
+        (subst (λ (h : HubView). ShowsClient h.trail h.pages.rights own.client (option_map change (client_at both.shared own.client)) (with_asks asks (client_in refuses.opened own.client))) (sym refuses.hub_is)
+        (shown_with_asks refuses.opened.trail refuses.opened.pages.rights own.client asks (client_at both.shared own.client) (client_in refuses.opened own.client)
+        (shows_opened.clients own.client))))

@@ -1,0 +1,77 @@
+use Rattle.std.proofs.Common.{◌≡◌, ◌<◌, ℕ, List, [], sym, ap, subst, ◌∙◌, Contains}
+use Rattle.std.specs.Prelude.{Option, None, slice_set}
+use Rattle.casper_words.specs.declared.page.Want.{Want}
+use Rattle.casper_trail.specs.declared.item.Item.{Item}
+use Rattle.casper_dir.specs.Rights.{right_at}
+use Rattle.casper_cache.specs.declared.held.Held.{Held}
+use Rattle.casper_cache.specs.Holding.{right_of}
+use Rattle.casper_cache.specs.Own as cache
+use Rattle.casper_hub.specs.HubView.{HubView, ClientView, PagesView, place_in, page_count, right_in, with_asks}
+use Rattle.casper_hub.specs.HubFields.{hub_of}
+use Rattle.casper_hub.specs.Sound.{IsSound}
+use Rattle.casper_hub.specs.Owned.{Owns}
+use Rattle.casper_hub.specs.Given.{Covers, GivesUp}
+use Rattle.casper_hub.specs.Stages.{Opens, Refuses, Leaves}
+use Rattle.casper_hub.proofs.Opened.{begins_owned, covers_owned, opened_owns, opened_sound}
+use Rattle.casper_hub.proofs.Standing.{nobody_fell}
+use Rattle.casper_hub.proofs.Giving.{covers_after}
+use Rattle.casper_hub.proofs.Refused.{refused_sound}
+
+-- What holds for the client of a cache, said of its number.
+
+-- a hub that owns a cache covers it
+pub covers_for : (who : ℕ) (hub : HubView) (own : cache.Own) → own.client ≡ who → IsSound hub → Owns hub own → Covers who hub.pages own.held
+covers_for who hub own is sound owns = subst (λ (w : ℕ). Covers w hub.pages own.held) is (covers_owned hub own sound owns)
+
+-- what opened a turn of this client opened one of the cache's
+pub opens_for : (who limit : ℕ) (items trail : List Item) (places : List (Option ClientView)) (pages : PagesView) (own own_after : cache.Own) (after : HubView) → own.client ≡ who → items ≡ trail
+    → Opens who (hub_of items limit places pages) own after own_after → Opens own.client (hub_of trail limit places pages) own after own_after
+opens_for who limit items trail places pages own own_after after is same opens =
+    subst (λ (w : ℕ). Opens w (hub_of trail limit places pages) own after own_after) (sym is)
+    (subst (λ (l : List Item). Opens who (hub_of l limit places pages) own after own_after) same opens)
+
+-- and so is a hub sound behind a refusal
+pub sound_refused_for : (who : ℕ) (asks : List Want) (hub : HubView) (own : cache.Own) (trail : List Item) (limit : ℕ) (places after : List (Option ClientView)) (pages : PagesView) (own_after : cache.Own)
+    → own.client ≡ who → IsSound hub → Owns hub own → Opens own.client hub own (hub_of trail limit places pages) own_after
+    → after ≡ slice_set places who (with_asks asks (place_in places who)) → ((ask : Want) → Contains asks ask → ask.page < page_count hub) → IsSound (hub_of trail limit after pages)
+sound_refused_for who asks hub own trail limit places after pages own_after is sound owns opens changed range =
+    refused_sound asks hub own (hub_of trail limit after pages) own_after sound owns refuses range
+  where
+    refuses : Refuses own.client asks hub own (hub_of trail limit after pages) own_after
+    refuses = record {
+      opened = hub_of trail limit places pages;
+      opens = opens;
+      hub_is = ap (λ l. hub_of trail limit l pages) (subst (λ (w : ℕ). after ≡ slice_set places w (with_asks asks (place_in places w))) (sym is) changed);
+    }
+
+-- behind an opening the cache covers its client's rights
+pub covers_opened_for : (who : ℕ) (hub : HubView) (own : cache.Own) (after : HubView) (own_after : cache.Own) → own.client ≡ who → IsSound hub → Owns hub own
+    → Opens own.client hub own after own_after → Covers who after.pages own_after.held
+covers_opened_for who hub own after own_after is sound owns opens =
+    subst (λ (w : ℕ). Covers w after.pages own_after.held) is
+    (covers_after own.client hub.pages after.pages own.held own_after.held (covers_owned hub own sound owns) opens.gives)
+
+-- and has just those
+pub rights_opened_for : (who : ℕ) (hub : HubView) (own : cache.Own) (after : HubView) (own_after : cache.Own) → own.client ≡ who → IsSound hub → Owns hub own
+    → Opens own.client hub own after own_after → (page : ℕ) → right_at after.pages.rights who page ≡ right_of page own_after.held
+rights_opened_for who hub own after own_after is sound owns opens page =
+    ap (λ w. right_in after w page) (sym (ap (λ (o : cache.Own). o.client) opens.own_is ∙ is))
+    ∙ (opened_owns hub own after own_after sound owns opens).rights
+    (nobody_fell after own_after.client (opened_sound own.client hub own after own_after (begins_owned hub own sound owns) opens)) page
+
+-- a client that then gave up every page and became absent left
+pub leaves_for : (who : ℕ) (hub : HubView) (own : cache.Own) (trail : List Item) (limit : ℕ) (places places_after : List (Option ClientView)) (pages pages_after : PagesView)
+    (own_opened own_given own_after : cache.Own) → own.client ≡ who → Opens own.client hub own (hub_of trail limit places pages) own_opened
+    → GivesUp who pages own_opened.held pages_after own_given.held → ((page : ℕ) → right_at pages_after.rights who page ≡ right_of page own_given.held)
+    → own_given ≡ record own_opened { held = [] } → places_after ≡ slice_set places who None → own_after ≡ record own_given { cap = 0 }
+    → Leaves own.client hub own (hub_of trail limit places_after pages_after) own_after
+leaves_for who hub own trail limit places places_after pages pages_after own_opened own_given own_after is opens gives all given left allowed = record {
+  opened = hub_of trail limit places pages;
+  opened_own = own_opened;
+  opens = opens;
+  gives = subst (λ (w : ℕ). GivesUp w pages own_opened.held pages_after []) (sym is)
+      (subst (λ (l : List Held). GivesUp who pages own_opened.held pages_after l) (ap (λ (o : cache.Own). o.held) given) gives);
+  none = λ page. ap (λ w. right_at pages_after.rights w page) is ∙ all page ∙ ap (λ (o : cache.Own). right_of page o.held) given;
+  hub_is = ap (λ l. hub_of trail limit l pages_after) (left ∙ ap (λ w. slice_set places w None) (sym is));
+  own_is = allowed ∙ ap (λ (o : cache.Own). record o { cap = 0 }) (given ∙ ap (λ (o : cache.Own). record o { held = [] }) opens.own_is);
+}

@@ -1,0 +1,334 @@
+use Rattle.std.proofs.Common.{◌≡◌, ◌≢◌, ◌<◌, ◌≤◌, ℕ, suc, ◌+◌, ◌-◌, ◌∙◌, List, [], ◌∷◌, ◌++◌, true, false, ◌&&◌, ◌==◌, fold, length, set, get_or-set_same, filter_map, refl, sym, ap, subst, true≢false, Contains, arith}
+use Rattle.std.specs.Prelude.{Option, None, Some, IsSome, is_some, option_map, option_and_then, MatchOption, min}
+use Rattle.std.specs.List.{cons_option}
+use Rattle.std.proofs.Math.Nat.{min-le_right}
+use Rattle.std.proofs.lemmas.Bool.{false_from_ne_true, and_parts, eqb-true}
+use Rattle.std.proofs.lemmas.List.{length-map}
+use Rattle.std.proofs.lemmas.List.Sums.{sum_by-set}
+use Rattle.casper_words.specs.declared.call.Op.{Op}
+use Rattle.casper_words.specs.declared.call.Op.TheVariants as op
+use Rattle.casper_words.specs.declared.call.Call.{Call}
+use Rattle.casper_words.specs.declared.page.Right.{Right}
+use Rattle.casper_words.specs.declared.page.Right.TheVariants as may
+use Rattle.casper_words.specs.declared.page.Want.{Want}
+use Rattle.casper_trail.specs.declared.entry.Entry.{Entry}
+use Rattle.casper_trail.specs.TrailView.{entry_count}
+use Rattle.casper_trail.specs.Value.{value_of, value_after, writes_page, is_write}
+use Rattle.casper_trail.specs.Parts.{as_items, live_entries}
+use Rattle.casper_trail.specs.Calls.{entry_by, entries_by}
+use Rattle.casper_trail.proofs.Parts.{live_of_more_entries}
+use Rattle.casper_trail.proofs.CallLists.{calls_of_another, count_of_more_entries}
+use Rattle.casper_dir.specs.Rights.{right_at, writer_at}
+use Rattle.casper_dir.proofs.EqualRights.{writer_holds_to_write}
+use Rattle.casper_cache.specs.declared.held.Held.{Held}
+use Rattle.casper_cache.specs.Holding.{entry_of, right_of, ArePagesDistinct}
+use Rattle.casper_cache.specs.Own as cache
+use Rattle.casper_cache.proofs.Entries.{entry_of-page}
+use Rattle.casper_model.specs.Room.{most_cap}
+use Rattle.casper_model.specs.LegalHistory.{right_for}
+use Rattle.casper_model.proofs.Entries.{contains_entry}
+use Rattle.casper_hub.specs.HubView.{HubView, ClientView, PagesView, client_in, cap_in, cap_of, caps_of, asks_of, fallen_in, is_live, free_in, with_cap, frame_in, items_behind}
+use Rattle.casper_hub.specs.Words.{live_value, stored_value, seen_value, AreWords, ServerIsRight, HeldIsRight, FramesAreRight, CacheIsRight}
+use Rattle.casper_hub.specs.Shows.{permits}
+use Rattle.casper_hub.specs.Sound.{IsSound}
+use Rattle.casper_hub.specs.Owned.{Owns}
+use Rattle.casper_hub.specs.Given.{Covers, GivesUp, Falls, left_of, kept_as, topped}
+use Rattle.casper_hub.specs.Stages.{Opens}
+use Rattle.casper_hub.specs.Apart.{Apart}
+use Rattle.casper_hub.specs.Still.{Still}
+use Rattle.casper_hub.proofs.Showing.{allows_right}
+use Rattle.casper_hub.proofs.Standing.{nobody_fell}
+use Rattle.casper_hub.proofs.Left.{entry_of-kept, distinct-kept}
+use Rattle.casper_hub.proofs.Giving.{fallen_from, held_right_kept}
+use Rattle.casper_hub.proofs.Relying.{seen_plain, same_held, same_words}
+use Rattle.casper_hub.proofs.Changing.{nobody_beside, same_rights, live_elsewhere, stored_stays, sound_changed, apart_changed, still_changed}
+
+-- each of these calls that writes is on a page that its client may write
+abbrev pub WritesAreHeld : ℕ → PagesView → List Call → Type 0
+WritesAreHeld who pages calls = (call : Call) → Contains calls call → is_write call.op ≡ true → right_at pages.rights who call.page ≡ Some may.Write
+
+-- what a turn finds as it opens: a sound hub, where the client is live with the cap of its cache, and a cache that covers its rights and
+-- has room for its pending calls, whose writes have their rights
+pub record Begins (who : ℕ) (hub : HubView) (own : cache.Own) : Type 0 where
+  pub sound : IsSound hub
+  pub live : is_live hub who ≡ true
+  pub cap : cap_in hub who ≡ own.cap
+  pub client : own.client ≡ who
+  pub covers : Covers who hub.pages own.held
+  pub room : length own.pending ≤ own.cap
+  pub writes : WritesAreHeld who hub.pages own.pending
+
+-- a right that permits to write is the right to write
+writes_permitted : (right : Option Right) → permits right may.Write ≡ true → right ≡ Some may.Write
+writes_permitted None is = absurd (true≢false (sym is))
+writes_permitted (Some may.Read) is = absurd (true≢false (sym is))
+writes_permitted (Some may.Write) is = refl
+
+-- what a client owns covers its rights
+pub covers_owned : (hub : HubView) (own : cache.Own) → IsSound hub → Owns hub own → Covers own.client hub.pages own.held
+covers_owned hub own sound owns = record {
+  client = owns.client;
+  holders = sound.holders;
+  frames_count = sound.frames;
+  distinct = owns.sound.distinct;
+  held_so = λ page right is. sym (owns.rights (nobody_fell hub own.client sound) page) ∙ is;
+  framed = λ page right is. sound.framed own.client page right is;
+}
+
+-- and its pending writes have their rights
+pub writes_owned : (hub : HubView) (own : cache.Own) → IsSound hub → Owns hub own → WritesAreHeld own.client hub.pages own.pending
+writes_owned hub own sound owns call inside writes =
+    let up : fallen_in hub own.client ≡ None = nobody_fell hub own.client sound in
+    owns.rights up call.page
+    ∙ writes_permitted (right_of call.page own.held)
+    (ap (permits (right_of call.page own.held)) (sym (needs call.op writes)) ∙ sym (allows_right own.held owns.sound.distinct call.page (right_for call.op)) ∙ owns.calls up call inside)
+  where
+    needs : (act : Op) → is_write act ≡ true → right_for act ≡ may.Write
+    needs op.Read e = absurd (true≢false (sym e))
+    needs op.Write e = refl
+    needs op.Touch e = absurd (true≢false (sym e))
+
+pub begins_owned : (hub : HubView) (own : cache.Own) → IsSound hub → Owns hub own → Begins own.client hub own
+begins_owned hub own sound owns = record {
+  sound = sound;
+  live = owns.live;
+  cap = owns.cap;
+  client = refl;
+  covers = covers_owned hub own sound owns;
+  room = let few = owns.sound.pending in let low : min 4096 own.cap ≤ own.cap = min-le_right 4096 own.cap in omega (arith, few, low);
+  writes = writes_owned hub own sound owns;
+}
+
+-- a live client with another cap
+pub cap_of_with : (cap : ℕ) (place : Option ClientView) → is_some place ≡ true → cap_of (with_cap cap place) ≡ cap
+cap_of_with cap None live = absurd (true≢false (sym live))
+cap_of_with cap (Some client) live = refl
+
+pub live_with_cap : (cap : ℕ) (place : Option ClientView) → is_some (with_cap cap place) ≡ is_some place
+live_with_cap cap None = refl
+live_with_cap cap (Some client) = refl
+
+pub asks_with_cap : (cap : ℕ) (place : Option ClientView) → asks_of (with_cap cap place) ≡ asks_of place
+asks_with_cap cap None = refl
+asks_with_cap cap (Some client) = refl
+
+-- a client of which no outcome is kept and that has not fallen
+abbrev pub IsPlain : Option ClientView → Type 0
+IsPlain place = (client : ClientView) → place ≡ Some client → (client.kept ≡ None) × (client.fallen ≡ None)
+
+pub plain_with_cap : (cap : ℕ) (place : Option ClientView) → IsPlain place → IsPlain (with_cap cap place)
+plain_with_cap cap None plain client e = cc
+plain_with_cap cap (Some shown) plain client e =
+    let same : record shown { cap = cap } ≡ client = cc in
+    subst (λ (c : ClientView). (c.kept ≡ None) × (c.fallen ≡ None)) same (plain shown refl)
+
+-- a client that is live is not absent
+pub live_is_some : (place : Option ClientView) → is_some place ≡ true → place ≡ None → ⊥
+live_is_some place live none = true≢false (sym live ∙ ap is_some none)
+
+-- what a client keeps is framed
+pub framed_left : (who : ℕ) (hub : HubView) (held held_after : List Held) (after : PagesView) → IsSound hub → GivesUp who hub.pages held after held_after
+    → (page : ℕ) (right : Right) → right_at after.rights who page ≡ Some right → IsSome (frame_in after page)
+framed_left who hub held held_after after sound gives page right is =
+    let before = fallen_from (right_at hub.pages.rights who page) (right_at after.rights who page) right (gives.falls page) is in
+    gives.framed page (sound.framed who page before.0 before.1)
+
+pub opened_sound : (who : ℕ) (hub : HubView) (own : cache.Own) (after : HubView) (own_after : cache.Own) → Begins who hub own → Opens who hub own after own_after → IsSound after
+opened_sound who hub own after own_after begins opens =
+    subst (λ (h : HubView). IsSound h) (sym opens.hub_is)
+    (sound_changed hub (hub.trail ++ as_items (entries_by who own.pending)) who place after.pages begins.sound begins.covers.client within
+    (plain_with_cap cap (client_in hub who) (begins.sound.up who))
+    (λ ask inside. begins.sound.asked who ask (subst (λ (asks : List Want). Contains asks ask) (asks_with_cap cap (client_in hub who)) inside))
+    opens.gives.rights_count opens.gives.frames_count opens.gives.holders
+    (λ none. absurd (live_is_some place (live_with_cap cap (client_in hub who) ∙ begins.live) none))
+    opens.gives.others (framed_left who hub own.held own_after.held after.pages begins.sound opens.gives) opens.gives.framed)
+  where
+    cap : ℕ
+    cap = topped own (free_in hub)
+
+    place : Option ClientView
+    place = with_cap cap (client_in hub who)
+
+    within : entry_count (hub.trail ++ as_items (entries_by who own.pending)) + caps_of (set hub.clients who place) ≤ hub.limit
+    within =
+        let most = begins.covers.client.1 in
+        let long = begins.sound.places in
+        let below : who < length hub.clients = omega arith in
+        let caps : caps_of (set hub.clients who place) + cap_in hub who ≡ caps_of hub.clients + cap_of place = sum_by-set cap_of hub.clients who place None below in
+        let count : entry_count (hub.trail ++ as_items (entries_by who own.pending)) ≡ entry_count hub.trail + length own.pending =
+        count_of_more_entries hub.trail (entries_by who own.pending) ∙ ap (λ n. entry_count hub.trail + n) (length-map own.pending (entry_by who)) in
+        let had : cap_in hub who ≡ own.cap = begins.cap in
+        let now : cap_of place ≡ cap = cap_of_with cap (client_in hub who) begins.live in
+        let low : cap ≤ own.cap - length own.pending + free_in hub = min-le_right most_cap (own.cap - length own.pending + free_in hub) in
+        let room : length own.pending ≤ own.cap = begins.room in
+        let before : entry_count hub.trail + caps_of hub.clients ≤ hub.limit = begins.sound.within in
+        omega (arith, caps, count, had, now, low, room, before)
+
+-- the pending writes are on no page that their client may not write
+pub unwritten : (who : ℕ) (pages : PagesView) (calls : List Call) (page : ℕ) → WritesAreHeld who pages calls → right_at pages.rights who page ≢ Some may.Write
+    → (entry : Entry) → Contains (entries_by who calls) entry → writes_page page entry ≡ false
+unwritten who pages calls page held never entry inside =
+    false_from_ne_true (writes_page page entry) (λ writes.
+    let found = contains_entry who calls entry inside in
+    let call : Call = found.0 in
+    let as_call : (is_write call.op && (call.page == page)) ≡ true = ap (writes_page page) found.2 ∙ writes in
+    let parts = and_parts (is_write call.op) (call.page == page) as_call in
+    never (ap (right_at pages.rights who) (sym (eqb-true call.page page parts.1)) ∙ held call found.1 parts.0))
+
+-- a page that nobody holds for writing this client does not
+pub no_writer_no_right : (pages : PagesView) (page who : ℕ) → writer_at pages.rights page ≡ None → right_at pages.rights who page ≢ Some may.Write
+no_writer_no_right pages page who none writes = let found = (writer_holds_to_write pages.rights page who).1 writes in cc
+
+-- nor one to which another has a right
+pub other_no_right : (pages : PagesView) (page who other : ℕ) → other ≢ who → IsSome (right_at pages.rights other page) → right_at pages.rights who page ≢ Some may.Write
+other_no_right pages page who other differ held writes = true≢false (sym held ∙ ap is_some (nobody_beside pages.rights page who other writes differ))
+
+-- frames that are right for some values are right for others that are the same where nobody writes
+pub same_server : (value stored value_too stored_too : ℕ → ℕ → ℕ) (pages : PagesView)
+    → ((page word : ℕ) → writer_at pages.rights page ≡ None → value page word ≡ value_too page word) → ((page word : ℕ) → stored page word ≡ stored_too page word)
+    → ServerIsRight value stored pages → ServerIsRight value_too stored_too pages
+same_server value stored value_too stored_too pages same same_stored right page none = of_frame (frame_in pages page) (right page none)
+  where
+    of_frame : (o : Option (List ℕ)) → MatchOption o ((word : ℕ) → word < 512 → value page word ≡ stored page word) (λ words. AreWords value page words)
+        → MatchOption o ((word : ℕ) → word < 512 → value_too page word ≡ stored_too page word) (λ words. AreWords value_too page words)
+    of_frame None are = λ word below. sym (same page word none) ∙ are word below ∙ same_stored page word
+    of_frame (Some words) are = same_words value value_too page words (λ word. same page word none) are
+
+-- once the pending calls are recorded, the live entries give what their client saw
+pub opened_seen : (base : List (List ℕ)) (who : ℕ) (hub : HubView) (own : cache.Own) (after : HubView) (own_after : cache.Own) → Begins who hub own → Opens who hub own after own_after
+    → (page word : ℕ) → live_value base after page word ≡ seen_value base hub own page word
+opened_seen base who hub own after own_after begins opens page word =
+    ap (λ (h : HubView). live_value base h page word) opens.hub_is
+    ∙ ap (λ (entries : List Entry). value_of base entries page word) (live_of_more_entries hub.trail (entries_by who own.pending))
+    ∙ ap (λ (w : ℕ). value_of base (live_entries hub.trail ++ entries_by w own.pending) page word) (sym begins.client)
+    ∙ sym (ap (λ fell. value_of base (live_entries (items_behind hub.trail fell) ++ entries_by own.client own.pending) page word) (nobody_fell hub own.client begins.sound))
+
+-- without pending calls a client sees the live entries
+pub seen_without_calls : (base : List (List ℕ)) (hub : HubView) (own : cache.Own) → IsSound hub → own.pending ≡ []
+    → (page word : ℕ) → seen_value base hub own page word ≡ live_value base hub page word
+seen_without_calls base hub own sound none page word =
+    seen_plain base hub own page word (nobody_fell hub own.client sound)
+    ∙ ap (λ (calls : List Call). fold (value_after page word) (live_value base hub page word) (entries_by own.client calls)) none
+
+pub opened_frames : (base : List (List ℕ)) (who : ℕ) (hub : HubView) (own : cache.Own) (after : HubView) (own_after : cache.Own) → Begins who hub own → Opens who hub own after own_after
+    → FramesAreRight base hub → CacheIsRight base hub own → FramesAreRight base after
+opened_frames base who hub own after own_after begins opens frames words =
+    opens.gives.words (live_value base after) (stored_value base after)
+    (same_server (live_value base hub) (stored_value base hub) (live_value base after) (stored_value base after) hub.pages
+    (λ page word none. sym (ap (λ (h : HubView). live_value base h page word) opens.hub_is
+    ∙ live_elsewhere base hub.trail (entries_by who own.pending) page word (unwritten who hub.pages own.pending page begins.writes (no_writer_no_right hub.pages page who none))))
+    (λ page word. sym (ap (λ (h : HubView). stored_value base h page word) opens.hub_is ∙ stored_stays base hub.trail (entries_by who own.pending) page word))
+    frames)
+    (same_held (seen_value base hub own) (live_value base after) own.held (λ page word held. sym (opened_seen base who hub own after own_after begins opens page word)) words)
+
+pub opened_words : (base : List (List ℕ)) (who : ℕ) (hub : HubView) (own : cache.Own) (after : HubView) (own_after : cache.Own) → Begins who hub own → Opens who hub own after own_after
+    → CacheIsRight base hub own → CacheIsRight base after own_after
+opened_words base who hub own after own_after begins opens words =
+    subst (λ (held : List Held). HeldIsRight (seen_value base after own_after) held) (sym opens.gives.held_is)
+    (held_right_kept (seen_value base after own_after) (right_at hub.pages.rights who) (right_at after.pages.rights who) own.held
+    (same_held (seen_value base hub own) (seen_value base after own_after) own.held
+    (λ page word held.
+    sym (seen_without_calls base after own_after (opened_sound who hub own after own_after begins opens) (ap (λ (o : cache.Own). o.pending) opens.own_is) page word
+    ∙ opened_seen base who hub own after own_after begins opens page word))
+    words))
+
+pub opened_apart : (who other : ℕ) (hub : HubView) (own : cache.Own) (after : HubView) (own_after : cache.Own) → Begins who hub own → Opens who hub own after own_after → other ≢ who
+    → Apart other hub after
+opened_apart who other hub own after own_after begins opens differ =
+    subst (λ (h : HubView). Apart other hub h) (sym opens.hub_is)
+    (apart_changed hub (as_items (entries_by who own.pending)) (hub.trail ++ as_items (entries_by who own.pending)) who other
+    (with_cap (topped own (free_in hub)) (client_in hub who)) after.pages differ refl
+    (calls_of_another hub.trail who other own.pending (λ e. differ (sym e))) opens.gives.rights_count
+    (λ page. same_rights hub.pages.rights after.pages.rights page other begins.sound.holders opens.gives.holders (λ is. opens.gives.others other page is differ))
+    (λ base page word held.
+    live_elsewhere base hub.trail (entries_by who own.pending) page word
+    (unwritten who hub.pages own.pending page begins.writes (other_no_right hub.pages page who other differ held))))
+
+pub opened_still : (who : ℕ) (hub : HubView) (own : cache.Own) (after : HubView) (own_after : cache.Own) → IsSound hub → Opens who hub own after own_after → Still hub after
+opened_still who hub own after own_after sound opens =
+    subst (λ (h : HubView). Still hub h) (sym opens.hub_is)
+    (still_changed hub (entries_by who own.pending) (hub.trail ++ as_items (entries_by who own.pending)) who
+    (with_cap (topped own (free_in hub)) (client_in hub who)) after.pages sound refl)
+
+-- what the server knows of the client once its turn has opened
+pub opened_client : (who : ℕ) (hub : HubView) (own : cache.Own) (after : HubView) (own_after : cache.Own) → Begins who hub own → Opens who hub own after own_after
+    → client_in after who ≡ with_cap (topped own (free_in hub)) (client_in hub who)
+opened_client who hub own after own_after begins opens =
+    let most = begins.covers.client.1 in
+    let long = begins.sound.places in
+    let below : who < length hub.clients = omega arith in
+    ap (λ (h : HubView). client_in h who) opens.hub_is
+    ∙ get_or-set_same hub.clients who (with_cap (topped own (free_in hub)) (client_in hub who)) None below
+
+-- and that it is live with the cap of its cache
+pub opened_live : (who : ℕ) (hub : HubView) (own : cache.Own) (after : HubView) (own_after : cache.Own) → Begins who hub own → Opens who hub own after own_after → is_live after who ≡ true
+opened_live who hub own after own_after begins opens =
+    ap is_some (opened_client who hub own after own_after begins opens) ∙ live_with_cap (topped own (free_in hub)) (client_in hub who) ∙ begins.live
+
+pub opened_cap : (who : ℕ) (hub : HubView) (own : cache.Own) (after : HubView) (own_after : cache.Own) → Begins who hub own → Opens who hub own after own_after
+    → cap_in after who ≡ own_after.cap
+opened_cap who hub own after own_after begins opens =
+    ap cap_of (opened_client who hub own after own_after begins opens) ∙ cap_of_with (topped own (free_in hub)) (client_in hub who) begins.live
+    ∙ sym (ap (λ (o : cache.Own). o.cap) opens.own_is)
+
+-- the rights that are left are those of the pages that are left
+pub rights_left : (before after : ℕ → Option Right) (held : List Held) → ((page : ℕ) → before page ≡ right_of page held) → ((page : ℕ) → Falls (before page) (after page))
+    → (page : ℕ) → after page ≡ right_of page (filter_map (kept_as before after) held)
+rights_left before after held same falls page =
+    by (entry_of page held) (λ entry is. entry_of-page page held entry is) (same page)
+    ∙ sym (ap (option_map (λ (h : Held). h.right)) (entry_of-kept before after page held))
+  where
+    again : (entry : Held) (o : Option Right) → option_map (λ (h : Held). h.right) (option_map (λ (left : Right). record entry { right = left }) o) ≡ o
+    again entry None = refl
+    again entry (Some right) = refl
+
+    by : (o : Option Held) → ((entry : Held) → o ≡ Some entry → entry.page ≡ page) → before page ≡ option_map (λ (h : Held). h.right) o
+        → after page ≡ option_map (λ (h : Held). h.right) (option_and_then (kept_as before after) o)
+    by None of e = subst (λ (o : Option Right). Falls o (after page)) e (falls page)
+    by (Some entry) of e =
+        let is : kept_as before after entry ≡ option_map (λ (left : Right). record entry { right = left }) (after page) =
+        ap (λ (q : ℕ). left_of (before q) (after q) entry) (of entry refl) ∙ ap (λ (o : Option Right). left_of o (after page) entry) e in
+        sym (ap (option_map (λ (h : Held). h.right)) is ∙ again entry (after page))
+
+-- no more is left than was held
+pub length_kept : {X Y : Type 0} (keep : X → Option Y) (held : List X) → length (filter_map keep held) ≤ length held
+length_kept keep [] = omega arith
+length_kept {X} {Y} keep (entry ∷ held) = step (keep entry) (length_kept keep held)
+  where
+    step : (o : Option Y) → length (filter_map keep held) ≤ length held → length (cons_option o (filter_map keep held)) ≤ suc (length held)
+    step None rest = omega (arith, rest)
+    step (Some left) rest = omega (arith, rest)
+
+pub opened_owns : (hub : HubView) (own : cache.Own) (after : HubView) (own_after : cache.Own) → IsSound hub → Owns hub own → Opens own.client hub own after own_after → Owns after own_after
+opened_owns hub own after own_after sound owns opens =
+    subst (λ (o : cache.Own). Owns after o) (sym opens.own_is) (record {
+      sound = record {
+        distinct = subst (λ (held : List Held). ArePagesDistinct held) (sym gives.held_is) (distinct-kept before left own.held owns.sound.distinct);
+        few = let few = owns.sound.few in let less = fewer in omega (arith, few, less);
+        pending = omega arith;
+        least = owns.sound.least;
+        most = owns.sound.most;
+      };
+      client = owns.client;
+      live = opened_live own.client hub own after own_after begins opens;
+      cap = opened_cap own.client hub own after own_after begins opens ∙ ap (λ (o : cache.Own). o.cap) opens.own_is;
+      few = let few = owns.few in let less = fewer in omega (arith, few, less);
+      rights = λ up page.
+          rights_left before left own.held (owns.rights (nobody_fell hub own.client sound)) gives.falls page ∙ sym (ap (right_of page) gives.held_is);
+      calls = λ up call inside. absurd (omega (arith, inside.1));
+    })
+  where
+    begins : Begins own.client hub own
+    begins = begins_owned hub own sound owns
+
+    gives : GivesUp own.client hub.pages own.held after.pages own_after.held
+    gives = opens.gives
+
+    before : ℕ → Option Right
+    before = right_at hub.pages.rights own.client
+
+    left : ℕ → Option Right
+    left = right_at after.pages.rights own.client
+
+    fewer : length own_after.held ≤ length own.held
+    fewer = subst (λ (held : List Held). length held ≤ length own.held) (sym gives.held_is) (length_kept (kept_as before left) own.held)

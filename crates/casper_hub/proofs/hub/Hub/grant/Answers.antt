@@ -1,0 +1,150 @@
+use Rattle.std.proofs.Common.{◌≡◌, ◌<◌, ◌∙◌, List, length, sym, ap, subst, Contains}
+use Rattle.casper_words.specs.declared.page.Want.{Want}
+use Rattle.casper_cache.specs.Own as cache
+use Rattle.casper_hub.specs.HubView.{HubView, page_count}
+use Rattle.casper_hub.specs.HubFields.{hub_of}
+use Rattle.casper_hub.specs.Owned.{Owns}
+use Rattle.casper_hub.specs.Deciding.{is_missing}
+use Rattle.casper_hub.specs.Given.{Covers}
+use Rattle.casper_hub.specs.Installing.{with_pages}
+use Rattle.casper_hub.specs.Stages.{CanGrant}
+use Rattle.casper_hub.proofs.Passing.{contains_passing}
+use Rattle.casper_hub.proofs.Installed.{begins_installed, missing_framed}
+use Rattle.casper_hub.proofs.hub.Hub.grant.Goals as goal
+use Rattle.std.proofs.Common.{◌≤◌, ◌-◌, ℕ, [], IsSome, refl}
+use Rattle.std.specs.Prelude.{slice_set}
+use Rattle.casper_dir.specs.Rights.{right_at, conflicts_at}
+use Rattle.casper_cache.specs.declared.held.Held.{Held}
+use Rattle.casper_cache.specs.Holding.{right_of}
+use Rattle.casper_hub.specs.HubView.{place_in, with_asks}
+use Rattle.casper_hub.specs.Stages.{Grants}
+use Rattle.casper_hub.proofs.Grants.{Made, granted_turn, made_sound, fronted_held}
+use Rattle.casper_hub.proofs.Ready.{Ready, GivesRights, ready_for, installed_sound, missing_held, missing_free, wanted_held, covers_given, rights_given}
+
+pub install-requires-clause-pages : goal.install-requires-clause-pages
+install-requires-clause-pages c want inside =
+    subst (λ (h : HubView). want.page < page_count h) (sym c.self.view_is)
+    (c.requires.range want
+    (contains_passing (is_missing c.args.self.now.pages c.args.self.now.clients c.args.who) c.args.wants.now want
+    (subst (λ (l : List Want). Contains l want) (c.as_slice-missing.ensures.wants ∙ c.requires.grants.missing_is) inside)))
+
+pub install-requires-clause-framed : goal.install-requires-clause-framed
+install-requires-clause-framed c want inside =
+    missing_framed c.args.who (hub_of c.self.inside.trail.items c.self.inside.limit c.self.inside.clients c.self.inside.pages) c.args.cache.now c.args.wants.now c.args.missing.now
+    (subst (λ (h : HubView). CanGrant c.args.who h c.args.cache.now c.args.wants.now c.args.missing.now) (sym c.self.view_is) c.requires.grants) want
+    (subst (λ (l : List Want). Contains l want) c.as_slice-missing.ensures.wants inside)
+
+pub open-requires-clause-covers : goal.open-requires-clause-covers
+open-requires-clause-covers c =
+    subst (λ (own : cache.Own). Covers c.args.who c.self.inside.pages own.held) (sym c.in_ok-install.ensures.ok)
+    (subst (λ who. Covers who c.self.inside.pages (with_pages c.self.inside.pages c.args.cache.now.held c.as_slice-missing.result.now)) c.requires.client
+    (begins_installed (hub_of c.self.inside.trail.items c.self.inside.limit c.self.inside.clients c.self.inside.pages) c.args.cache.now c.as_slice-missing.result.now c.self.invariant.0
+    (subst (λ (h : HubView). Owns h c.args.cache.now) (sym c.self.view_is) c.requires.owns)).covers)
+
+pub grant-requires-clause-pages : goal.grant-requires-clause-pages
+grant-requires-clause-pages c want inside =
+    subst (λ n. want.page < n) (sym c.open.ensures.opens.gives.rights_count)
+    (subst (λ (h : HubView). want.page < page_count h) (sym c.self.view_is)
+    (c.requires.range want
+    (contains_passing (is_missing c.args.self.now.pages c.args.self.now.clients c.args.who) c.args.wants.now want
+    (subst (λ (l : List Want). Contains l want) (c.as_slice-missing.ensures.wants ∙ c.requires.grants.missing_is) inside))))
+
+pub open-requires-clause-own : goal.open-requires-clause-own
+open-requires-clause-own c =
+    subst (λ (own : cache.Own). cache.IsSound own) (sym c.in_ok-install.ensures.ok)
+    (installed_sound (hub_of c.self.inside.trail.items c.self.inside.limit c.self.inside.clients c.self.inside.pages) c.args.cache.now c.as_slice-missing.result.now
+    (subst (λ (h : HubView). Owns h c.args.cache.now) (sym c.self.view_is) c.requires.owns)
+    (subst (λ (l : List Want). length l ≤ 4) (sym c.as_slice-missing.ensures.wants) c.as_slice-missing.ensures.few))
+
+pub grant-requires-clause-held : goal.grant-requires-clause-held
+grant-requires-clause-held c want inside =
+    missing_held (hub_of c.self.inside.trail.items c.self.inside.limit c.self.inside.clients c.self.inside.pages) c.args.cache.now c.args.wants.now c.as_slice-missing.result.now (hub_of c.open.new.trail.items c.self.inside.limit c.open.new.clients c.open.new.pages) c.open.new.cache
+    (ready_for c.args.who c.self.inside.limit c.args.self.now c.args.cache.now c.install.new.cache c.open.new.cache c.args.wants.now c.args.missing.now c.as_slice-missing.result.now c.reserve.new.self.items c.self.inside.trail.items
+    c.self.inside.clients c.self.inside.pages (hub_of c.open.new.trail.items c.self.inside.limit c.open.new.clients c.open.new.pages)
+    c.self.view_is c.requires.client c.self.invariant.0 c.requires.owns c.requires.grants c.as_slice-missing.ensures.wants c.reserve.ensures.items c.in_ok-install.ensures.ok c.open.ensures.opens) want inside
+
+pub grant-requires-clause-free : goal.grant-requires-clause-free
+grant-requires-clause-free c want inside =
+    subst (λ (w : ℕ). conflicts_at c.open.new.pages.rights want.page w want.right ≡ []) c.requires.client
+    (missing_free (hub_of c.self.inside.trail.items c.self.inside.limit c.self.inside.clients c.self.inside.pages) c.args.cache.now c.args.wants.now c.as_slice-missing.result.now (hub_of c.open.new.trail.items c.self.inside.limit c.open.new.clients c.open.new.pages) c.open.new.cache
+    (ready_for c.args.who c.self.inside.limit c.args.self.now c.args.cache.now c.install.new.cache c.open.new.cache c.args.wants.now c.args.missing.now c.as_slice-missing.result.now c.reserve.new.self.items c.self.inside.trail.items
+    c.self.inside.clients c.self.inside.pages (hub_of c.open.new.trail.items c.self.inside.limit c.open.new.clients c.open.new.pages)
+    c.self.view_is c.requires.client c.self.invariant.0 c.requires.owns c.requires.grants c.as_slice-missing.ensures.wants c.reserve.ensures.items c.in_ok-install.ensures.ok c.open.ensures.opens) want inside)
+
+pub bring_to_front-requires : goal.bring_to_front-requires
+bring_to_front-requires c want inside =
+    subst (λ (own : cache.Own). IsSome (right_of want.page own.held)) (sym c.allow.ensures.allowed)
+    (subst (λ (own : cache.Own). IsSome (right_of want.page own.held)) (sym c.grant.ensures.cache)
+    (wanted_held (hub_of c.self.inside.trail.items c.self.inside.limit c.self.inside.clients c.self.inside.pages) c.args.cache.now c.args.wants.now c.as_slice-missing.result.now (hub_of c.open.new.trail.items c.self.inside.limit c.open.new.clients c.open.new.pages) c.open.new.cache
+    (ready_for c.args.who c.self.inside.limit c.args.self.now c.args.cache.now c.install.new.cache c.open.new.cache c.args.wants.now c.args.missing.now c.as_slice-missing.result.now c.reserve.new.self.items c.self.inside.trail.items
+    c.self.inside.clients c.self.inside.pages (hub_of c.open.new.trail.items c.self.inside.limit c.open.new.clients c.open.new.pages)
+    c.self.view_is c.requires.client c.self.invariant.0 c.requires.owns c.requires.grants c.as_slice-missing.ensures.wants c.reserve.ensures.items c.in_ok-install.ensures.ok c.open.ensures.opens) want inside))
+
+pub shrink-requires-clause-covers : goal.shrink-requires-clause-covers
+shrink-requires-clause-covers c =
+    subst (λ (w : ℕ). Covers w c.grant.new.pages c.bring_to_front.new.cache.held) c.requires.client
+    (subst (λ (l : List Held). Covers c.args.cache.now.client c.grant.new.pages l) (sym (fronted_held c.open.new.cache c.grant.new.cache c.allow.new.self c.bring_to_front.new.cache c.as_slice-missing.result.now c.args.wants.now (c.cap.result - length c.as_slice-missing.result.now) c.grant.ensures.cache c.allow.ensures.allowed c.bring_to_front.ensures))
+    (covers_given (hub_of c.self.inside.trail.items c.self.inside.limit c.self.inside.clients c.self.inside.pages) c.args.cache.now c.args.wants.now c.as_slice-missing.result.now (hub_of c.open.new.trail.items c.self.inside.limit c.open.new.clients c.open.new.pages) c.open.new.cache c.grant.new.pages
+    (ready_for c.args.who c.self.inside.limit c.args.self.now c.args.cache.now c.install.new.cache c.open.new.cache c.args.wants.now c.args.missing.now c.as_slice-missing.result.now c.reserve.new.self.items c.self.inside.trail.items
+    c.self.inside.clients c.self.inside.pages (hub_of c.open.new.trail.items c.self.inside.limit c.open.new.clients c.open.new.pages)
+    c.self.view_is c.requires.client c.self.invariant.0 c.requires.owns c.requires.grants c.as_slice-missing.ensures.wants c.reserve.ensures.items c.in_ok-install.ensures.ok c.open.ensures.opens)
+    (subst (λ (w : ℕ). GivesRights w c.as_slice-missing.result.now c.open.new.pages c.grant.new.pages) (sym c.requires.client)
+    record { frames = c.grant.ensures.frames; count = c.grant.ensures.count; rights = c.grant.ensures.rights; holders = c.grant.ensures.holders c.open.ensures.opens.gives.holders })))
+
+pub shrink-requires-clause-all : goal.shrink-requires-clause-all
+shrink-requires-clause-all c page =
+    subst (λ (w : ℕ). right_at c.grant.new.pages.rights w page ≡ right_of page c.bring_to_front.new.cache.held) c.requires.client
+    (rights_given (hub_of c.self.inside.trail.items c.self.inside.limit c.self.inside.clients c.self.inside.pages) c.args.cache.now c.args.wants.now c.as_slice-missing.result.now (hub_of c.open.new.trail.items c.self.inside.limit c.open.new.clients c.open.new.pages) c.open.new.cache c.grant.new.pages
+    (ready_for c.args.who c.self.inside.limit c.args.self.now c.args.cache.now c.install.new.cache c.open.new.cache c.args.wants.now c.args.missing.now c.as_slice-missing.result.now c.reserve.new.self.items c.self.inside.trail.items
+    c.self.inside.clients c.self.inside.pages (hub_of c.open.new.trail.items c.self.inside.limit c.open.new.clients c.open.new.pages)
+    c.self.view_is c.requires.client c.self.invariant.0 c.requires.owns c.requires.grants c.as_slice-missing.ensures.wants c.reserve.ensures.items c.in_ok-install.ensures.ok c.open.ensures.opens)
+    (subst (λ (w : ℕ). GivesRights w c.as_slice-missing.result.now c.open.new.pages c.grant.new.pages) (sym c.requires.client)
+    record { frames = c.grant.ensures.frames; count = c.grant.ensures.count; rights = c.grant.ensures.rights; holders = c.grant.ensures.holders c.open.ensures.opens.gives.holders }) page
+    ∙ sym (ap (right_of page) (fronted_held c.open.new.cache c.grant.new.cache c.allow.new.self c.bring_to_front.new.cache c.as_slice-missing.result.now c.args.wants.now (c.cap.result - length c.as_slice-missing.result.now) c.grant.ensures.cache c.allow.ensures.allowed c.bring_to_front.ensures)))
+
+made : (c : goal.After-shrink) → Made c.args.cache.now.client c.args.wants.now c.as_slice-missing.result.now (hub_of c.open.new.trail.items c.self.inside.limit c.open.new.clients c.open.new.pages) c.open.new.cache (hub_of c.grant.new.trail.items c.self.inside.limit c.set_asks.new.self c.shrink.new.pages) c.shrink.new.cache
+made c =
+    subst (λ (w : ℕ). Made w c.args.wants.now c.as_slice-missing.result.now (hub_of c.open.new.trail.items c.self.inside.limit c.open.new.clients c.open.new.pages) c.open.new.cache (hub_of c.grant.new.trail.items c.self.inside.limit c.set_asks.new.self c.shrink.new.pages) c.shrink.new.cache) (sym c.requires.client) record {
+      granted = c.grant.new.pages;
+      gives_rights = record { frames = c.grant.ensures.frames; count = c.grant.ensures.count; rights = c.grant.ensures.rights; holders = c.grant.ensures.holders c.open.ensures.opens.gives.holders };
+      others = c.grant.ensures.others;
+      given = c.grant.new.cache;
+      given_is = c.grant.ensures.cache;
+      cap = (c.cap.result - length c.as_slice-missing.result.now);
+      cap_is = ap (λ n. n - length c.as_slice-missing.result.now) c.cap.ensures;
+      set = c.set_cap.new.self;
+      set_is = c.set_cap.ensures;
+      allowed = c.allow.new.self;
+      allowed_is = c.allow.ensures.allowed;
+      fronted = c.bring_to_front.new.cache;
+      fronted_is = c.bring_to_front.ensures;
+      gives = c.shrink.ensures.gives;
+      all = c.shrink.ensures.all;
+      trail = c.grant.ensures.trail;
+      clients = c.set_asks.ensures ∙ ap (λ asks. slice_set c.set_cap.new.self c.args.who (with_asks asks (place_in c.set_cap.new.self c.args.who))) c.none.ensures;
+      limit = refl;
+      stabilisations = refl;
+      own_is = c.shrink.ensures.cache;
+    }
+
+ready : (c : goal.After-shrink) → Ready (hub_of c.self.inside.trail.items c.self.inside.limit c.self.inside.clients c.self.inside.pages) c.args.cache.now c.args.wants.now c.as_slice-missing.result.now (hub_of c.open.new.trail.items c.self.inside.limit c.open.new.clients c.open.new.pages) c.open.new.cache
+ready c =
+    ready_for c.args.who c.self.inside.limit c.args.self.now c.args.cache.now c.install.new.cache c.open.new.cache c.args.wants.now c.args.missing.now c.as_slice-missing.result.now c.reserve.new.self.items c.self.inside.trail.items
+    c.self.inside.clients c.self.inside.pages (hub_of c.open.new.trail.items c.self.inside.limit c.open.new.clients c.open.new.pages)
+    c.self.view_is c.requires.client c.self.invariant.0 c.requires.owns c.requires.grants c.as_slice-missing.ensures.wants c.reserve.ensures.items c.in_ok-install.ensures.ok c.open.ensures.opens
+
+pub invariant_of-self-2 : goal.invariant_of-self-2
+invariant_of-self-2 c = (
+  made_sound (hub_of c.self.inside.trail.items c.self.inside.limit c.self.inside.clients c.self.inside.pages) c.args.cache.now c.args.wants.now c.as_slice-missing.result.now (hub_of c.open.new.trail.items c.self.inside.limit c.open.new.clients c.open.new.pages) c.open.new.cache (hub_of c.grant.new.trail.items c.self.inside.limit c.set_asks.new.self c.shrink.new.pages) c.shrink.new.cache (ready c) (made c),
+  c.grant.ensures.limit ∙ c.open.ensures.limit ∙ c.reserve.ensures.limit ∙ c.self.invariant.1,
+)
+
+pub returns-clause-sound : goal.returns-clause-sound
+returns-clause-sound c = (invariant_of-self-2 c).0
+
+pub returns-clause-ok : goal.returns-clause-ok
+returns-clause-ok c =
+    subst (λ (h : HubView). Grants c.args.who c.args.wants.now c.args.missing.now h c.args.cache.now (hub_of c.grant.new.trail.items c.self.inside.limit c.set_asks.new.self c.shrink.new.pages) c.shrink.new.cache) c.self.view_is
+    (subst (λ (l : List Want). Grants c.args.who c.args.wants.now l (hub_of c.self.inside.trail.items c.self.inside.limit c.self.inside.clients c.self.inside.pages) c.args.cache.now (hub_of c.grant.new.trail.items c.self.inside.limit c.set_asks.new.self c.shrink.new.pages) c.shrink.new.cache) c.as_slice-missing.ensures.wants
+    (subst (λ (w : ℕ). Grants w c.args.wants.now c.as_slice-missing.result.now (hub_of c.self.inside.trail.items c.self.inside.limit c.self.inside.clients c.self.inside.pages) c.args.cache.now (hub_of c.grant.new.trail.items c.self.inside.limit c.set_asks.new.self c.shrink.new.pages) c.shrink.new.cache) c.requires.client
+    (granted_turn (hub_of c.self.inside.trail.items c.self.inside.limit c.self.inside.clients c.self.inside.pages) c.args.cache.now c.args.wants.now c.as_slice-missing.result.now (hub_of c.open.new.trail.items c.self.inside.limit c.open.new.clients c.open.new.pages) c.open.new.cache (hub_of c.grant.new.trail.items c.self.inside.limit c.set_asks.new.self c.shrink.new.pages) c.shrink.new.cache (ready c) (made c))))

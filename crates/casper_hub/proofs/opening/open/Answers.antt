@@ -1,0 +1,29 @@
+use Rattle.std.proofs.Common.{◌<◌, List, length, Contains, subst, arith}
+use Rattle.casper_words.specs.declared.page.Want.{Want}
+use Rattle.casper_hub.specs.Given.{topped}
+use Rattle.casper_hub.proofs.Recorded.{asks_beside_cap, opens_recorded, own_given, gives_recorded, sound_opened}
+use Rattle.casper_hub.proofs.opening.open.Goals as goal
+
+pub meet_all-requires-clause-asked : goal.meet_all-requires-clause-asked
+meet_all-requires-clause-asked c other ask inside =
+    let most = c.requires.covers.client.1 in
+    let long = c.requires.sound.places in
+    let within : c.args.who < length c.args.clients.now = omega arith in
+    c.requires.sound.asked other ask (subst (λ (asks : List Want). Contains asks ask)
+    (asks_beside_cap c.args.clients.now c.record.new.clients c.args.who (topped c.args.cache.now c.free_room-free.result) within c.record.ensures.clients other) inside)
+
+pub returns-clause-opens : goal.returns-clause-opens
+returns-clause-opens c =
+    let most = c.requires.covers.client.1 in
+    let long = c.requires.sound.places in
+    let within : c.args.who < length c.args.clients.now = omega arith in
+    opens_recorded c.args.who c.args.limit c.free_room-free.result c.args.trail.now.items c.record.new.trail.items c.args.clients.now c.record.new.clients
+    c.args.pages.now c.meet_all.new.pages c.args.cache.now c.record.new.cache c.meet_all.new.cache within c.free_room-free.ensures
+    c.record.ensures.trail c.record.ensures.clients c.record.ensures.cache c.meet_all.ensures.rest c.meet_all.ensures.meets
+
+pub returns-clause-own : goal.returns-clause-own
+returns-clause-own c =
+    sound_opened c.args.who (topped c.args.cache.now c.free_room-free.result) c.args.pages.now c.meet_all.new.pages c.args.cache.now c.meet_all.new.cache c.requires.own
+    (gives_recorded c.args.who (topped c.args.cache.now c.free_room-free.result) c.args.pages.now c.meet_all.new.pages c.args.cache.now c.record.new.cache c.meet_all.new.cache.held
+    c.record.ensures.cache c.meet_all.ensures.meets.gives)
+    (own_given c.args.cache.now c.record.new.cache c.meet_all.new.cache (topped c.args.cache.now c.free_room-free.result) c.record.ensures.cache c.meet_all.ensures.rest)

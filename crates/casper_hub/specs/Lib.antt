@@ -1,0 +1,17 @@
+pub mod Apart
+pub mod Asks
+pub mod Deciding
+pub mod Few
+pub mod Given
+pub mod HubFields
+pub mod HubView
+pub mod Installing
+pub mod Owned
+pub mod Places
+pub mod Relying
+pub mod Shows
+pub mod Sound
+pub mod Stages
+pub mod Still
+pub mod Turns
+pub mod Words

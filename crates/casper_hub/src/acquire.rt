@@ -1,0 +1,138 @@
+ghost use Rattle.std.specs.Prelude.{◌≡◌, ◌≢◌, ◌<◌, ◌≤◌, ℕ, List, IfOk, OnOk, OnErr, Contains};
+ghost use Rattle.casper_words.specs.Wants.{AreWants};
+ghost use Rattle.casper_words.specs.declared.page.Want.{Want as AWant};
+ghost use Rattle.casper_hub.specs.HubView.{page_count};
+ghost use Rattle.casper_hub.specs.Owned.{Owns};
+ghost use Rattle.casper_hub.specs.Sound.{IsSound};
+ghost use Rattle.casper_hub.specs.Apart.{Apart};
+ghost use Rattle.casper_hub.specs.Still.{Still};
+ghost use Rattle.casper_hub.specs.Words.{FramesAreRight, CacheIsRight};
+ghost use Rattle.casper_hub.specs.Stages.{Refuses, CanGrant, Grants};
+ghost use Rattle.casper_hub.specs.Turns.{Acquires};
+
+use crate::Hub;
+use crate::decide::{Decision, decide};
+use crate::few::FewWants;
+use crate::install::{bring_to_front, grant, install, shrink};
+use crate::opening::{MOST_CAP, free_room, open};
+use casper_cache::Cache;
+use casper_model::Reply;
+use casper_trail::Mark;
+use casper_words::{Memory, Want, Who};
+
+impl Hub {
+    /// A turn in which a live client wants pages, and room for so many calls. Load comes exactly where it would be granted and the
+    /// server has no frame of a missing page; then nothing has changed, and the page is to be read and supplied. After Memory nothing
+    /// has changed.
+    pub fn acquire(
+        &mut self,
+        who: Who,
+        cache: &mut Cache,
+        wants: &[Want],
+        calls: u32,
+    ) -> Result<Reply, Memory>
+        requires client { cache.old.client ≡ who }
+        requires owns { Owns self.old cache.old }
+        requires wants { AreWants wants.now }
+        requires range { (want : AWant) → Contains wants.now want → want.page < page_count self.old }
+        requires some { 1 ≤ calls }
+        requires few { calls ≤ 4096 }
+        ensures turn { IfOk result (λ reply. Acquires self.old cache.old wants.now calls reply self.new cache.new) }
+        ensures memory { OnErr result (self.new ≡ self.old) }
+        ensures cache_stays { OnErr result (cache.new ≡ cache.old) }
+        ensures owned { Owns self.new cache.new }
+        ensures client_after { cache.new.client ≡ who }
+        ensures frames { (base : List (List ℕ)) → FramesAreRight base self.old → CacheIsRight base self.old cache.old → FramesAreRight base self.new }
+        ensures words { (base : List (List ℕ)) → FramesAreRight base self.old → CacheIsRight base self.old cache.old → CacheIsRight base self.new cache.new }
+        ensures others { (other : ℕ) → other ≢ who → Apart other self.old self.new }
+        ensures still { Still self.old self.new }
+        ensures sound { IsSound self.new }
+    {
+        let pending = cache.pending().as_slice().len() as u32;
+        let free = free_room(&self.trail, self.limit, &self.clients);
+        let cap = MOST_CAP.min(self.clients.cap(who) - pending + free);
+        match decide(&self.pages, &self.clients, who, wants, calls, cap) {
+            Decision::Load(page) => Ok(Reply::Load {
+                page,
+                marks: self.trail.commits(),
+            }),
+            Decision::Pending(blockers, blocked) => {
+                self.refuse(who, cache, blocked)?;
+                Ok(Reply::Pending(blockers))
+            }
+            Decision::Full => {
+                self.refuse(who, cache, FewWants::none())?;
+                Ok(Reply::TrailFull(self.trail.entries()))
+            }
+            Decision::Grant(missing) => {
+                self.grant(who, cache, wants, &missing)?;
+                Ok(Reply::Granted)
+            }
+        }
+    }
+
+    /// Opens the turn of an acquire that is refused, and keeps what is asked for.
+    fn refuse(&mut self, who: Who, cache: &mut Cache, asks: FewWants) -> Result<(), Memory>
+        requires client { cache.old.client ≡ who }
+        requires owns { Owns self.old cache.old }
+        requires range { (ask : AWant) → Contains asks ask → ask.page < page_count self.old }
+        ensures ok { OnOk result (Refuses who asks self.old cache.old self.new cache.new) }
+        ensures memory { OnErr result (self.new ≡ self.old) }
+        ensures cache_stays { OnErr result (cache.new ≡ cache.old) }
+        ensures sound { IsSound self.new }
+    {
+        let _mark: Option<Mark> = None;
+        self.trail.reserve(cache.pending().as_slice().len() as u32)?;
+        open(
+            &mut self.trail,
+            self.limit,
+            &mut self.clients,
+            &mut self.pages,
+            who,
+            cache,
+        );
+        self.clients.set_asks(who, asks);
+        Ok(())
+    }
+
+    /// Makes the turn of an acquire that is granted, with these of its wants missing.
+    fn grant(
+        &mut self,
+        who: Who,
+        cache: &mut Cache,
+        wants: &[Want],
+        missing: &FewWants,
+    ) -> Result<(), Memory>
+        requires client { cache.old.client ≡ who }
+        requires owns { Owns self.old cache.old }
+        requires wants { AreWants wants.now }
+        requires range { (want : AWant) → Contains wants.now want → want.page < page_count self.old }
+        requires grants { CanGrant who self.old cache.old wants.now missing.now }
+        ensures ok { OnOk result (Grants who wants.now missing.now self.old cache.old self.new cache.new) }
+        ensures memory { OnErr result (self.new ≡ self.old) }
+        ensures cache_stays { OnErr result (cache.new ≡ cache.old) }
+        ensures sound { IsSound self.new }
+    {
+        let _mark: Option<Mark> = None;
+        let missing = missing.as_slice();
+        let pending = cache.pending().as_slice().len() as u32;
+        self.trail.reserve(pending + missing.len() as u32)?;
+        install(&self.pages, cache, missing)?;
+        open(
+            &mut self.trail,
+            self.limit,
+            &mut self.clients,
+            &mut self.pages,
+            who,
+            cache,
+        );
+        grant(&mut self.trail, &mut self.pages, who, cache, missing);
+        let cap = self.clients.cap(who) - missing.len() as u32;
+        self.clients.set_cap(who, cap);
+        self.clients.set_asks(who, FewWants::none());
+        cache.allow(cap);
+        bring_to_front(cache, wants);
+        shrink(&mut self.pages, who, cache);
+        Ok(())
+    }
+}

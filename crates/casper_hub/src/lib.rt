@@ -1,0 +1,16 @@
+//! The server's hub: one turn of a client after another, over who holds which page, who asks for which, and the trail.
+#![tactic(auto)]
+
+mod acquire;
+mod clients;
+mod decide;
+mod few;
+mod hub;
+mod install;
+mod laws;
+mod leave;
+mod opening;
+mod pages;
+
+pub use hub::Hub;
+pub use laws::{apart_laws, hit_laws};

@@ -1,0 +1,135 @@
+ghost use Rattle.std.specs.Prelude.{◌≡◌, ◌≢◌, ◌+◌, ◌-◌, ◌<◌, ◌≤◌, ◌^◌, ℕ, [], ◌∷◌, ◌++◌, length, slice_set, Some, Contains};
+ghost use Rattle.std.specs.List.{list_any};
+ghost use Rattle.casper_words.specs.declared.page.Want.{Want as AnAsk};
+ghost use Rattle.casper_trail.specs.TrailView.{entry_count};
+ghost use Rattle.casper_trail.specs.Parts.{as_items};
+ghost use Rattle.casper_trail.specs.Calls.{entries_by};
+ghost use Rattle.casper_dir.specs.Rights.{right_at};
+ghost use Rattle.casper_model.specs.Held.{is_to_write};
+ghost use Rattle.casper_model.specs.Opening.{any_right};
+ghost use Rattle.casper_hub.specs.HubView.{ClientView, place_in, cap_of, with_cap, asks_of, caps_of};
+ghost use Rattle.casper_cache.specs.Own.{IsSound as IsSoundCache};
+ghost use Rattle.casper_hub.specs.HubFields.{hub_of};
+ghost use Rattle.casper_hub.specs.Sound.{IsSound};
+ghost use Rattle.casper_hub.specs.Stages.{Opens};
+ghost use Rattle.casper_hub.specs.Asks.{are_for};
+ghost use Rattle.casper_hub.specs.Given.{Covers, Meets, topped, asked_below};
+
+use crate::clients::Clients;
+use crate::pages::Pages;
+use casper_cache::Cache;
+use casper_trail::{Mark, Trail};
+use casper_words::{Right, Want, Who};
+
+/// How many entries are promised to a client at the most.
+pub(crate) const MOST_CAP: u32 = 4100;
+
+/// How many entries may still be promised, of so many that the trail may have.
+pub(crate) fn free_room(trail: &Trail, limit: u32, clients: &Clients) -> u32
+    requires { entry_count trail.now.items + caps_of clients.now ≤ limit }
+    ensures { result ≡ limit - entry_count trail.now.items - caps_of clients.now }
+{
+    let _mark: Option<Mark> = None;
+    let promised = clients.promised();
+    limit - trail.entries() - promised as u32
+}
+
+/// Records the pending calls of a client, in order, and tops its cap up as far as the free room allows. It takes no memory.
+pub(crate) fn record(
+    trail: &mut Trail,
+    clients: &mut Clients,
+    who: Who,
+    cache: &mut Cache,
+    free: u32,
+)
+    requires room { length cache.old.pending ≤ trail.old.room }
+    requires limit { entry_count trail.old.items + length cache.old.pending ≤ trail.old.limit }
+    requires cap { cap_of (place_in clients.old who) ≡ cache.old.cap }
+    requires pending { length cache.old.pending ≤ cache.old.cap }
+    requires fits { cache.old.cap + free < 2 ^ 32 }
+    ensures trail { trail.new.items ≡ trail.old.items ++ as_items (entries_by who cache.old.pending) }
+    ensures limit { trail.new.limit ≡ trail.old.limit }
+    ensures room { trail.old.room ≡ trail.new.room + length cache.old.pending }
+    ensures clients { clients.new ≡ slice_set clients.old who (with_cap (topped cache.old free) (place_in clients.old who)) }
+    ensures cache { cache.new ≡ record cache.old { pending = []; cap = topped cache.old free } }
+{
+    let _mark: Option<Mark> = None;
+    let count = cache.pending().as_slice().len() as u32;
+    trail.push_all(who, cache.pending());
+    cache.clear_pending();
+    let cap = MOST_CAP.min(clients.cap(who) - count + free);
+    clients.set_cap(who, cap);
+    cache.allow(cap);
+}
+
+/// Gives a page of a client up to an ask of another: wholly to one that asks to write it, and else to reading.
+fn meet(pages: &mut Pages, who: Who, cache: &mut Cache, ask: Want)
+    requires covers { Covers who pages.old cache.old.held }
+    requires page { ask.page < length pages.old.rights }
+    ensures meets { Meets who (are_for is_to_write (ask ∷ [])) (are_for any_right (ask ∷ [])) pages.old cache.old.held pages.new cache.new.held }
+    ensures rest { cache.new ≡ record cache.old { held = cache.new.held } }
+{
+    if let Some(right) = pages.right(who, ask.page) {
+        match ask.right {
+            Right::Write => pages.give_up(who, cache, ask.page, false),
+            Right::Read => match right {
+                Right::Write => pages.give_up(who, cache, ask.page, true),
+                Right::Read => {}
+            },
+        }
+    }
+}
+
+/// The same for each of these asks.
+fn meet_each(pages: &mut Pages, who: Who, cache: &mut Cache, asks: &[Want])
+    requires covers { Covers who pages.old cache.old.held }
+    requires asked { (ask : AnAsk) → Contains asks.now ask → ask.page < length pages.old.rights }
+    ensures meets { Meets who (are_for is_to_write asks.now) (are_for any_right asks.now) pages.old cache.old.held pages.new cache.new.held }
+    ensures rest { cache.new ≡ record cache.old { held = cache.new.held } }
+{
+    for ask in asks {
+        meet(pages, who, cache, *ask);
+    }
+}
+
+/// The same for the asks of all other clients.
+pub(crate) fn meet_all(pages: &mut Pages, clients: &Clients, who: Who, cache: &mut Cache)
+    requires covers { Covers who pages.old cache.old.held }
+    requires asked { (other : ℕ) (ask : AnAsk) → Contains (asks_of (place_in clients.now other)) ask → ask.page < length pages.old.rights }
+    ensures meets { Meets who (asked_below 33 is_to_write clients.now who) (asked_below 33 any_right clients.now who) pages.old cache.old.held pages.new cache.new.held }
+    ensures rest { cache.new ≡ record cache.old { held = cache.new.held } }
+{
+    for number in 1..Who::MOST + 1 {
+        if let Some(other) = Who::new(number) {
+            if other != who {
+                meet_each(pages, who, cache, clients.asks_of(other));
+            }
+        }
+    }
+}
+
+/// Opens a turn of a client: its pending calls are recorded, its cap is topped up, and pages are given up to the asks of the others.
+/// It takes no memory.
+pub(crate) fn open(
+    trail: &mut Trail,
+    limit: u32,
+    clients: &mut Clients,
+    pages: &mut Pages,
+    who: Who,
+    cache: &mut Cache,
+)
+    requires sound { IsSound (hub_of trail.old.items limit clients.old pages.old) }
+    requires limit { trail.old.limit ≡ limit }
+    requires own { IsSoundCache cache.old }
+    requires cap { cap_of (place_in clients.old who) ≡ cache.old.cap }
+    requires covers { Covers who pages.old cache.old.held }
+    requires room { length cache.old.pending ≤ trail.old.room }
+    ensures opens { Opens who (hub_of trail.old.items limit clients.old pages.old) cache.old (hub_of trail.new.items limit clients.new pages.new) cache.new }
+    ensures limit { trail.new.limit ≡ trail.old.limit }
+    ensures room { trail.old.room ≡ trail.new.room + length cache.old.pending }
+    ensures own { IsSoundCache cache.new }
+{
+    let free = free_room(trail, limit, clients);
+    record(trail, clients, who, cache, free);
+    meet_all(pages, clients, who, cache);
+}
