@@ -1,0 +1,15 @@
+pub mod Acquires
+pub mod Begins
+pub mod CallTurns
+pub mod CoreTurns
+pub mod Departs
+pub mod Hits
+pub mod HitTurns
+pub mod Joins
+pub mod Loads
+pub mod Places
+pub mod ReplayRuns
+pub mod StepParts
+pub mod MachineTurns
+pub mod VaultReads
+pub mod Witness

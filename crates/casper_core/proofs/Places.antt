@@ -1,0 +1,141 @@
+use Rattle.std.proofs.Common.{◌≡◌, ◌≢◌, ◌⊎◌, ◌<◌, ℕ, List, [], ◌∷◌, ◌++◌, false, length-set, get_or-set_same, get_or-set_other, refl, sym, ap, ◌∙◌, subst, ⊎_elim, arith}
+use Rattle.std.specs.Prelude.{Option, None, Some, is_some}
+use Rattle.std.specs.List.{list_any}
+use Rattle.std.proofs.lemmas.Bool.{cases_eq}
+use Rattle.casper_words.specs.Crew.{IsClient}
+use Rattle.casper_words.specs.declared.call.Call.{Call}
+use Rattle.casper_trail.specs.declared.entry.Entry.{Entry}
+use Rattle.casper_trail.specs.declared.item.Item.{Item}
+use Rattle.casper_trail.specs.TrailView.{is_commit}
+use Rattle.casper_trail.specs.Parts.{as_items, stable_entries}
+use Rattle.casper_trail.specs.Calls.{entries_by}
+use Rattle.casper_trail.specs.Value.{value_of}
+use Rattle.casper_trail.proofs.Images.{stable_without_commit}
+use Rattle.casper_cache.specs.Own as cache
+use Rattle.casper_model.specs.Acquire.{touches_by}
+use Rattle.casper_model.specs.Growth.{AddsOwn}
+use Rattle.casper_model.specs.State.{State, own_at}
+use Rattle.casper_model.specs.Turn.{Turn}
+use Rattle.casper_model.specs.Vault.{VaultState}
+use Rattle.casper_space.specs.declared.answer.Answer.{Answer}
+use Rattle.casper_hub.specs.HubView.{HubView, is_live, page_count}
+use Rattle.casper_hub.specs.Words.{FramesAreRight, CacheIsRight}
+use Rattle.casper_hub.proofs.Relying.{owns_while_apart, right_while_apart}
+use Rattle.casper_hub.specs.Apart.{Apart}
+use Rattle.casper_core.specs.Acting.{Gives}
+use Rattle.casper_core.specs.CoreView.{CoreView, cache_at}
+use Rattle.casper_core.specs.Loading.{AreStored}
+use Rattle.casper_core.specs.Placing.{placed, IsPlaced, IsRight}
+use Rattle.casper_core.specs.Sound.{Keeps, IsSound}
+use Rattle.casper_core.specs.Stands.{own_part, HasPartsOf}
+
+-- A core behind a turn of a client is sound, and its parts are those of the state behind it.
+
+module _ {V : Type 0} (core : CoreView V) (who : ℕ) (hub : HubView) (place : Option cache.Own) (calls : ℕ) (vault : V) (size : ℕ) (told : VaultState) where
+  pub at_place : IsSound core → IsClient who → cache_at (placed core who hub place calls vault size told) who ≡ place
+  at_place sound client = get_or-set_same core.caches who place None (omega (arith, sound.places, client.1))
+
+  pub elsewhere : (other : ℕ) → other ≢ who → cache_at (placed core who hub place calls vault size told) other ≡ cache_at core other
+  elsewhere other away = get_or-set_other core.caches who other place None away
+
+  pages_stay : IsClient who → IsPlaced who core hub place → page_count hub ≡ page_count core.hub
+  pages_stay client is = let none : 0 ≢ who = omega (arith, client.0) in (is.others 0 none).pages
+
+  live_at : IsSound core → IsClient who → IsPlaced who core hub place → (other : ℕ) → (other ≡ who) ⊎ (other ≢ who)
+      → is_some (cache_at (placed core who hub place calls vault size told) other) ≡ is_live hub other
+  live_at sound client is other cases =
+      ⊎_elim
+      (λ (same : other ≡ who).
+      subst (λ number. is_some (cache_at (placed core who hub place calls vault size told) number) ≡ is_live hub number) (sym same)
+      (ap is_some (at_place sound client) ∙ is.live))
+      (λ (away : other ≢ who). ap is_some (elsewhere other away) ∙ sound.live other ∙ sym (is.others other away).live)
+      cases
+
+  kept_at : IsSound core → IsClient who → IsPlaced who core hub place → (other : ℕ) (own : cache.Own) → (other ≡ who) ⊎ (other ≢ who)
+      → cache_at (placed core who hub place calls vault size told) other ≡ Some own → Keeps (placed core who hub place calls vault size told) other own
+  kept_at sound client is other own cases found =
+      ⊎_elim
+      (λ (same : other ≡ who).
+      let here : place ≡ Some own = sym (at_place sound client) ∙ subst (λ number. cache_at (placed core who hub place calls vault size told) number ≡ Some own) same found in
+      record { client = is.client own here ∙ sym same; capacity = is.same_capacity own here; owns = is.owns own here })
+      (λ (away : other ≢ who).
+      let kept = sound.kept other own (sym (elsewhere other away) ∙ found) in
+      record {
+        client = kept.client;
+        capacity = kept.capacity;
+        owns = owns_while_apart core.hub hub own kept.owns (subst (λ number. Apart number core.hub hub) (sym kept.client) (is.others other away));
+      })
+      cases
+
+  pub sound_placed : IsSound core → IsClient who → IsPlaced who core hub place → size ≡ core.size → told.doubt ≡ None
+      → IsSound (placed core who hub place calls vault size told)
+  sound_placed sound client is same_size sure = record {
+    hub = is.sound;
+    places = length-set core.caches who place ∙ sound.places;
+    live = λ other. live_at sound client is other (cases_eq other who);
+    kept = λ other own found. kept_at sound client is other own (cases_eq other who) found;
+    least = sound.least;
+    most = sound.most;
+    size = same_size ∙ sound.size ∙ sym (pages_stay client is);
+    sure = sure;
+  }
+
+  module _ (state : State) (turn : Turn) (answer : Answer) where
+    owns_at : IsSound core → IsClient who → HasPartsOf state core → Gives who state turn answer hub (own_part core.capacity who place) → (other : ℕ) → other < 33 → (other ≡ who) ⊎ (other ≢ who)
+        → own_at turn.state other ≡ own_part core.capacity other (cache_at (placed core who hub place calls vault size told) other)
+    owns_at sound client parts gives other below cases =
+        ⊎_elim
+        (λ (same : other ≡ who).
+        subst (λ number. own_at turn.state number ≡ own_part core.capacity number (cache_at (placed core who hub place calls vault size told) number)) (sym same)
+        (gives.part ∙ ap (own_part core.capacity who) (sym (at_place sound client))))
+        (λ (away : other ≢ who). gives.others other away ∙ parts.owns other below ∙ ap (own_part core.capacity other) (sym (elsewhere other away)))
+        cases
+
+    words_at : IsSound core → IsClient who → IsPlaced who core hub place → HasPartsOf state core → IsRight state.base hub place → (other : ℕ) (own : cache.Own) → (other ≡ who) ⊎ (other ≢ who)
+        → cache_at (placed core who hub place calls vault size told) other ≡ Some own → CacheIsRight state.base hub own
+    words_at sound client is parts right other own cases found =
+        ⊎_elim
+        (λ (same : other ≡ who).
+        right.words own (sym (at_place sound client) ∙ subst (λ number. cache_at (placed core who hub place calls vault size told) number ≡ Some own) same found))
+        (λ (away : other ≢ who).
+        let there = sym (elsewhere other away) ∙ found in
+        let kept = sound.kept other own there in
+        right_while_apart state.base core.hub hub own is.sound kept.owns (subst (λ number. Apart number core.hub hub) (sym kept.client) (is.others other away)) (parts.words other own there))
+        cases
+
+    stored_at : IsClient who → IsPlaced who core hub place → HasPartsOf state core → Gives who state turn answer hub (own_part core.capacity who place)
+        → stable_entries turn.state.shared.trail ≡ stable_entries state.shared.trail → AreStored state.base hub core.told.image
+    stored_at client is parts gives same page below =
+        let stored = parts.stored page (subst (λ count. page < count) (pages_stay client is) below) in
+        let entries : stable_entries hub.trail ≡ stable_entries core.hub.trail =
+        ap stable_entries (sym gives.shared.trail) ∙ same ∙ ap stable_entries parts.shared.trail in
+        record { long = stored.long; each = λ word inside. stored.each word inside ∙ ap (λ list. value_of state.base list page word) (sym entries) }
+
+    pub parts_placed : IsSound core → IsClient who → IsPlaced who core hub place → HasPartsOf state core → Gives who state turn answer hub (own_part core.capacity who place)
+        → IsRight state.base hub place → stable_entries turn.state.shared.trail ≡ stable_entries state.shared.trail → told ≡ core.told
+        → HasPartsOf turn.state (placed core who hub place calls vault size told)
+    parts_placed sound client is parts gives right same same_told = record {
+      shared = gives.shared;
+      owns = λ other below. owns_at sound client parts gives other below (cases_eq other who);
+      finished = gives.unfinished ∙ parts.finished;
+      vault = gives.vault ∙ parts.vault ∙ sym same_told;
+      frames = subst (λ base. FramesAreRight base hub) (sym gives.base) right.frames;
+      words = λ other own found. subst (λ base. CacheIsRight base hub own) (sym gives.base) (words_at sound client is parts right other own (cases_eq other who) found);
+      stored = subst (λ base. AreStored base hub told.image) (sym gives.base)
+          (subst (λ (one : VaultState). AreStored state.base hub one.image) (sym same_told) (stored_at client is parts gives same));
+    }
+
+-- What a turn of a client adds to a trail makes nothing stable.
+
+no_commits : (entries : List Entry) → list_any is_commit (as_items entries) ≡ false
+no_commits [] = refl
+no_commits (entry ∷ entries) = no_commits entries
+
+stable_with_entries : (trail : List Item) (entries : List Entry) → stable_entries (trail ++ as_items entries) ≡ stable_entries trail
+stable_with_entries trail entries = stable_without_commit trail (as_items entries) (no_commits entries)
+
+pub stable_stays : (who : ℕ) (pending : List Call) (before after : List Item) → AddsOwn who pending before after → stable_entries after ≡ stable_entries before
+stable_stays who pending before after AddsOwn.nothing = refl
+stable_stays who pending before after AddsOwn.calls = stable_with_entries before (entries_by who pending)
+stable_stays who pending before after (AddsOwn.touches wants) =
+    stable_with_entries (before ++ as_items (entries_by who pending)) (touches_by who wants) ∙ stable_with_entries before (entries_by who pending)

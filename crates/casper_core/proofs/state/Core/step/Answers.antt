@@ -1,0 +1,76 @@
+use Rattle.std.proofs.Common.{sym, subst}
+use Rattle.casper_model.specs.Growth.{StepAdds}
+use Rattle.casper_core.specs.CoreView.{CoreView, told_by}
+use Rattle.casper_core.specs.Sound.{IsSound}
+use Rattle.casper_core.specs.Stepping.{IsAnswered}
+use Rattle.casper_core.proofs.StepParts.{legal_of, unheld_of, adds_of, sound_counted, answered_counted}
+use Rattle.casper_core.proofs.state.Core.step.Goals as goal
+
+pub returns-in_err-answer-clause-legal : goal.returns-in_err-answer-clause-legal
+returns-in_err-answer-clause-legal g c = λ state stands. legal_of state c.carry_out.new.self stands
+
+pub returns-then-not-is_call_made-clause-legal : goal.returns-then-not-is_call_made-clause-legal
+returns-then-not-is_call_made-clause-legal g c = λ state stands. legal_of state c.carry_out.new.self stands
+
+pub invariant_of-self : goal.invariant_of-self
+invariant_of-self g c =
+    let core : CoreView g.row.V.Denot = record {
+      hub = c.self.inside.hub;
+      caches = c.self.inside.caches.items;
+      capacity = c.self.inside.capacity;
+      calls = c.self.inside.calls;
+      vault = c.self.inside.vault;
+      size = g.V.Vault.size c.self.inside.vault;
+      told = told_by g.V.Vault.image g.V.Vault.version g.V.Vault.room g.V.Vault.doubt c.self.inside.vault;
+    } in
+    let sound : IsSound core = c.self.invariant in
+    sound_counted core c.saturating_add-self-inside.result sound
+
+pub returns-clause-step : goal.returns-clause-step
+returns-clause-step g c = λ told state stands.
+    let core : CoreView g.row.V.Denot = record {
+      hub = c.self.inside.hub;
+      caches = c.self.inside.caches.items;
+      capacity = c.self.inside.capacity;
+      calls = c.self.inside.calls;
+      vault = c.self.inside.vault;
+      size = g.V.Vault.size c.self.inside.vault;
+      told = told_by g.V.Vault.image g.V.Vault.version g.V.Vault.room g.V.Vault.doubt c.self.inside.vault;
+    } in
+    answered_counted state c.args.event.now c.in_ok-answer.answer core c.saturating_add-self-inside.result
+    (subst (IsAnswered state c.args.event.now c.in_ok-answer.answer) (sym c.self.view_is) (c.in_ok-answer.ensures.step told state stands))
+
+pub returns-clause-legal : goal.returns-clause-legal
+returns-clause-legal g c = λ state stands. legal_of state _ stands
+
+pub returns-clause-sound : goal.returns-clause-sound
+returns-clause-sound g c =
+    let core : CoreView g.row.V.Denot = record {
+      hub = c.self.inside.hub;
+      caches = c.self.inside.caches.items;
+      capacity = c.self.inside.capacity;
+      calls = c.self.inside.calls;
+      vault = c.self.inside.vault;
+      size = g.V.Vault.size c.self.inside.vault;
+      told = told_by g.V.Vault.image g.V.Vault.version g.V.Vault.room g.V.Vault.doubt c.self.inside.vault;
+    } in
+    let sound : IsSound core = c.self.invariant in
+    sound_counted core c.saturating_add-self-inside.result sound
+
+pub returns-in_err-answer-clause-unheld : goal.returns-in_err-answer-clause-unheld
+returns-in_err-answer-clause-unheld g c = λ state stands. unheld_of state c.carry_out.new.self stands
+
+pub returns-then-not-is_call_made-clause-unheld : goal.returns-then-not-is_call_made-clause-unheld
+returns-then-not-is_call_made-clause-unheld g c = λ state stands. unheld_of state c.carry_out.new.self stands
+
+pub returns-clause-unheld : goal.returns-clause-unheld
+returns-clause-unheld g c = λ state stands. unheld_of state _ stands
+
+pub returns-then-not-is_call_made-clause-adds : goal.returns-then-not-is_call_made-clause-adds
+returns-then-not-is_call_made-clause-adds g c = λ told.
+    adds_of c.args.event.now c.in_ok-answer.answer c.args.self.now c.carry_out.new.self (c.in_ok-answer.ensures.step told)
+
+pub returns-clause-adds : goal.returns-clause-adds
+returns-clause-adds g c = λ told state stands.
+    subst (λ (core : CoreView g.row.V.Denot). StepAdds state c.args.event.now core.hub.trail) (sym c.self.view_is)
+    (adds_of c.args.event.now c.in_ok-answer.answer c.args.self.now c.carry_out.new.self (c.in_ok-answer.ensures.step told) state stands)

@@ -1,0 +1,9 @@
+pub mod Acting
+pub mod ClientTurns
+pub mod CoreView
+pub mod Loading
+pub mod Placing
+pub mod Sound
+pub mod Stands
+pub mod Stepping
+pub mod UnheldPages

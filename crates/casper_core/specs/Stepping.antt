@@ -1,0 +1,86 @@
+use Rattle.std.specs.Prelude.{◌≡◌, ℕ, ◌+◌, ◌-◌, ◌^◌, min, List, [], ◌∷◌, Bool, true, false, IsTrue, Contains, ⊤}
+use Rattle.casper_space.specs.declared.answer.Answer.{Answer}
+use Rattle.casper_space.specs.declared.answer.Answer.TheVariants as answer
+use Rattle.casper_trail.specs.Legal.{IsLegal}
+use Rattle.casper_model.specs.declared.event.Event.{Event}
+use Rattle.casper_model.specs.declared.event.Event.TheVariants as event
+use Rattle.casper_model.specs.State.{State}
+use Rattle.casper_model.specs.Step.{step}
+use Rattle.casper_model.specs.Run.{Happening, fits, all_fit, answers_of, state_after}
+use Rattle.casper_model.specs.WholeHistory.{whole_of}
+use Rattle.casper_core.specs.Acting.{outside_of}
+use Rattle.casper_core.specs.CoreView.{CoreView}
+use Rattle.casper_core.specs.Loading.{OnlyLoads}
+use Rattle.casper_core.specs.Stands.{Stands}
+
+-- an event for which there is a turn as yet
+abbrev pub IsBuilt : Event → Type 0
+IsBuilt (event.Join who) = ⊤
+IsBuilt (event.Read who page word) = ⊤
+IsBuilt (event.Write who page word value) = ⊤
+IsBuilt (event.Acquire who wants) = ⊤
+IsBuilt (event.Serve who) = ⊤
+IsBuilt (event.Stabilise who) = ⊥
+IsBuilt (event.WriteOut lead) = ⊥
+IsBuilt (event.Finish lead) = ⊥
+IsBuilt event.Settle = ⊥
+IsBuilt (event.Depart who) = ⊤
+IsBuilt (event.Vanish who) = ⊥
+IsBuilt (event.Lose who) = ⊥
+
+-- an event, and what the outside did as its answer tells it
+abbrev pub happening_of : Event → Answer → Happening
+happening_of event answer = record { event = event; outside = outside_of answer }
+
+-- the answer to an event is that of the machine's step, and the core behind it stands for the state behind it
+pub record IsAnswered {V : Type 0} (state : State) (event : Event) (answer : Answer) (after : CoreView V) : Type 0 where
+  pub outside_fits : IsTrue (fits state (happening_of event answer))
+  pub answers : answer ≡ (step state event (outside_of answer)).answer
+  pub stands : Stands (step state event (outside_of answer)).state after
+
+-- so it is from each state that the core stood for
+abbrev pub Steps : {V : Type 0} → Event → Answer → CoreView V → CoreView V → Type 0
+Steps event answer core after = (state : State) → Stands state core → IsAnswered state event answer after
+
+-- nothing of the state has changed, but the server may have got frames
+pub record IsUnchanged {V : Type 0} (core after : CoreView V) : Type 0 where
+  pub hub : OnlyLoads core.hub after.hub
+  pub caches : after.caches ≡ core.caches
+  pub capacity : after.capacity ≡ core.capacity
+  pub calls : after.calls ≡ core.calls
+
+-- whether an answer says that a call was completed
+abbrev pub completes : Event → Answer → Bool
+completes (event.Read who page word) (answer.Value value) = true
+completes (event.Write who page word value) answer.Ok = true
+completes other answer = false
+
+-- the calls completed, of which no more are counted than a number of 64 bits tells
+abbrev pub counted : Bool → ℕ → ℕ
+counted true calls = min (calls + 1) (2 ^ 64 - 1)
+counted false calls = calls
+
+-- the trail is legal, and so it is with all pending calls behind it
+pub record HasLegalTrail {V : Type 0} (state : State) (core : CoreView V) : Type 0 where
+  pub trail : IsLegal state.base core.hub.trail
+  pub whole : IsLegal state.base (whole_of state)
+
+-- events, and what the outside did in the step of each, as the answers tell it
+abbrev pub happenings_of : List Event → List Answer → List Happening
+happenings_of events [] = []
+happenings_of [] (answer ∷ said) = []
+happenings_of (event ∷ events) (answer ∷ said) = happening_of event answer ∷ happenings_of events said
+
+-- the answers to the first of some events are those of the machine, and the core behind them stands for the state behind them
+pub record IsRun {V : Type 0} (state : State) (events : List Event) (said : List Answer) (after : CoreView V) : Type 0 where
+  pub outside_fits : IsTrue (all_fit state (happenings_of events said))
+  pub answers : said ≡ answers_of state (happenings_of events said)
+  pub stands : Stands (state_after state (happenings_of events said)) after
+
+-- so it is from each state that the core stood for
+abbrev pub Runs : {V : Type 0} → List Event → List Answer → CoreView V → CoreView V → Type 0
+Runs events said core after = (state : State) → Stands state core → IsRun state events said after
+
+-- each of these events is built
+abbrev pub AreBuilt : List Event → Type 0
+AreBuilt events = (event : Event) → Contains events event → IsBuilt event

@@ -1,0 +1,17 @@
+//! The core: events answered one after another, over a hub, a cache for each live client, and a vault.
+#![tactic(auto)]
+
+mod acquire;
+mod acts;
+mod answers;
+mod calls;
+mod depart;
+mod join;
+mod load;
+mod replay;
+mod state;
+mod step;
+mod turn;
+
+pub use state::Core;
+pub use step::StepFault;

@@ -1,0 +1,137 @@
+ghost use Rattle.std.specs.Prelude.{◌≡◌, ◌≤◌, [], replicate, None, IsTrue, IfOk, IfErr};
+ghost use Rattle.casper_model.specs.State.{start};
+ghost use Rattle.casper_core.specs.Sound.{IsSound};
+ghost use Rattle.casper_core.specs.Stands.{Stands};
+ghost use Rattle.casper_core.specs.CoreView.{told_by};
+
+use casper_cache::Cache;
+use casper_disk::Vault;
+use casper_hub::Hub;
+use casper_trail::Mark;
+use casper_words::Memory;
+use std::alloc::Global;
+use std::marker::Model;
+
+/// How many places there are for caches: one for each number up to 32, the place 0 unused.
+const PLACES: usize = 33;
+
+/// What answers events one after another: the hub, a cache for each live client, and the vault. Contracts see these three, and what
+/// the vault tells of its image.
+#[derive(Drop)]
+pub struct Core<V: Vault> {
+    pub(crate) alloc: Global,
+    pub(crate) hub: Hub,
+    pub(crate) caches: Vec<Option<Cache>>,
+    pub(crate) vault: V,
+    pub(crate) capacity: u32,
+    pub(crate) calls: u64,
+}
+
+impl<V: Vault> Model for Core<V> {
+    ghost use Rattle.casper_core.specs.CoreView.{CoreView, told_by};
+
+    ghost Value = { CoreView V };
+
+    ghost use Rattle.casper_core.specs.Sound.{IsSound};
+
+    ghost view = { λ core. record {
+      hub = core.hub;
+      caches = core.caches.items;
+      capacity = core.capacity;
+      calls = core.calls;
+      vault = core.vault;
+      size = V.size core.vault;
+      told = told_by V.image V.version V.room V.doubt core.vault;
+    } };
+
+    ghost invariant = { λ core. IsSound (record {
+      hub = core.hub;
+      caches = core.caches.items;
+      capacity = core.capacity;
+      calls = core.calls;
+      vault = core.vault;
+      size = V.size core.vault;
+      told = told_by V.image V.version V.room V.doubt core.vault;
+    }) };
+}
+
+/// The places of the caches, all of them empty.
+fn no_caches(alloc: Global) -> Result<Vec<Option<Cache>>, Memory>
+    ensures { IfOk result (λ caches. caches.items ≡ replicate 33 None) }
+{
+    let mut caches = Vec::with_capacity(alloc, PLACES)?;
+    for _ in 0..PLACES {
+        caches.push(None)?;
+    }
+    Ok(caches)
+}
+
+impl<V: Vault> Core<V> {
+    /// The core of a session that begins over a vault, with a trail of at most so many entries, and at most so many pages in each
+    /// cache. The vault is given back where memory is short.
+    pub fn new(alloc: Global, vault: V, limit: u32, capacity: u32) -> Result<Core<V>, (V, Memory)>
+        requires sure { V.doubt vault ≡ None }
+        requires pages { V.size vault ≤ 16384 }
+        requires limit { limit ≤ 4194304 }
+        requires least { 8 ≤ capacity }
+        requires most { capacity ≤ 1024 }
+        ensures stands { IsTrue V.tells → IfOk result (λ core. Stands (start core.told core.size limit capacity) core) }
+        ensures vault { IfOk result (λ core. core.vault ≡ vault) }
+        ensures told { IfOk result (λ core. core.told ≡ told_by V.image V.version V.room V.doubt vault) }
+        ensures size { IfOk result (λ core. core.size ≡ V.size vault) }
+        ensures trail { IfOk result (λ core. core.hub.trail ≡ []) }
+        ensures calls { IfOk result (λ core. core.calls ≡ 0) }
+        ensures capacity { IfOk result (λ core. core.capacity ≡ capacity) }
+        ensures returned { IfErr result (λ refusal. refusal.0 ≡ vault) }
+        ensures sound { IfOk result (λ core. IsSound core) }
+    {
+        let _mark: Option<Mark> = None;
+        let hub = match Hub::new(alloc, vault.pages(), limit) {
+            Ok(hub) => hub,
+            Err(memory) => return Err((vault, memory)),
+        };
+        let caches = match no_caches(alloc) {
+            Ok(caches) => caches,
+            Err(memory) => return Err((vault, memory)),
+        };
+        Ok(Core {
+            alloc,
+            hub,
+            caches,
+            vault,
+            capacity,
+            calls: 0,
+        })
+    }
+
+    /// The hub.
+    pub fn hub(&self) -> &Hub
+        ensures hub { result.now ≡ self.now.hub }
+        ensures sound { IsSound self.now }
+    {
+        &self.hub
+    }
+
+    /// How many reads and writes were completed since the session began. The number stays at the greatest of its type.
+    pub fn calls(&self) -> u64
+        ensures { result ≡ self.now.calls }
+    {
+        self.calls
+    }
+
+    /// The version of the vault's image.
+    pub fn version(&self) -> u64
+        ensures { result ≡ self.now.told.version }
+    {
+        self.vault.version()
+    }
+
+    /// The hub and the vault of a session that ends.
+    pub fn into_parts(self) -> (Hub, V)
+        ensures hub { result.0 ≡ self.hub }
+        ensures vault { result.1 ≡ self.vault }
+    {
+        let Core { hub, vault, .. } = self;
+        (hub, vault)
+    }
+}

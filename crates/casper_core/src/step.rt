@@ -1,0 +1,93 @@
+ghost use Rattle.std.specs.Prelude.{◌≡◌, IsTrue, IfOk, OnErr, ◌≤◌};
+ghost use Rattle.casper_words.specs.Count.{Rose};
+ghost use Rattle.casper_space.specs.declared.answer.Answer.TheVariants as said;
+ghost use Rattle.casper_model.specs.Growth.{StepAdds};
+ghost use Rattle.casper_model.specs.State.{State};
+ghost use Rattle.casper_core.specs.Loading.{OnlyReads};
+ghost use Rattle.casper_core.specs.Sound.{IsSound};
+ghost use Rattle.casper_core.specs.Stands.{Stands};
+ghost use Rattle.casper_core.specs.Stepping.{IsBuilt, Steps, IsUnchanged, completes, counted, HasLegalTrail};
+ghost use Rattle.casper_core.specs.UnheldPages.{UnheldPagesAreRight};
+ghost use Rattle.casper_disk.specs.Vault.{Adds};
+
+use crate::Core;
+use casper_disk::Vault;
+use casper_model::Event;
+use casper_space::Answer;
+use casper_trail::Mark;
+use casper_words::Memory;
+
+/// Why a step was not made.
+#[derive(Clone, Copy, Debug, PartialEq, Eq)]
+pub enum StepFault {
+    /// There was too little memory.
+    Memory,
+}
+
+impl From<Memory> for StepFault {
+    fn from(_memory: Memory) -> StepFault {
+        StepFault::Memory
+    }
+}
+
+/// Whether an event came to a completed call, by its answer.
+fn is_call_made(event: &Event, answer: &Answer) -> bool
+    ensures { result ≡ completes event.now answer.now }
+{
+    match (event, answer) {
+        (Event::Read(_, _, _), Answer::Value(_)) => true,
+        (Event::Write(_, _, _, _), Answer::Ok) => true,
+        _ => false,
+    }
+}
+
+impl<V: Vault> Core<V> {
+    /// Answers an event, whose calls are not counted yet.
+    fn carry_out(&mut self, event: &Event) -> Result<Answer, Memory>
+        requires built { IsBuilt event.now }
+        ensures step { IsTrue V.tells → IfOk result (λ answer. Steps event.now answer self.old self.new) }
+        ensures failed { IfOk result (λ answer. answer ≡ said.Disk → Rose (V.faults self.old.vault) (V.faults self.new.vault)) }
+        ensures memory { OnErr result (IsUnchanged self.old self.new) }
+        ensures stands { IsTrue V.tells → OnErr result ((state : State) → Stands state self.old → Stands state self.new) }
+        ensures calls { self.new.calls ≡ self.old.calls }
+        ensures vault { OnlyReads V.tells V.size V.image V.version V.room V.doubt V.images_now V.moment V.images_since V.faults self.old.vault self.new.vault }
+        ensures sound { IsSound self.new }
+    {
+        let _mark: Option<Mark> = None;
+        match event {
+            Event::Join(who) => self.join(*who),
+            Event::Read(who, _, _) => self.turn(*who, event),
+            Event::Write(who, _, _, _) => self.turn(*who, event),
+            Event::Acquire(who, _) => self.turn(*who, event),
+            Event::Serve(who) => self.turn(*who, event),
+            Event::Depart(who) => self.depart(*who),
+            _ => unreachable!(),
+        }
+    }
+
+    /// Answers one event. After Memory nothing of the state has changed, but the server may have got frames of pages of the image.
+    pub fn step(&mut self, event: &Event) -> Result<Answer, StepFault>
+        requires built { IsBuilt event.now }
+        ensures step { IsTrue V.tells → IfOk result (λ answer. Steps event.now answer self.old self.new) }
+        ensures fault { IfOk result (λ answer. answer ≡ said.Disk → Rose (V.faults self.old.vault) (V.faults self.new.vault)) }
+        ensures never_falls { V.faults self.old.vault ≤ V.faults self.new.vault }
+        ensures memory { OnErr result (IsUnchanged self.old self.new) }
+        ensures stands { IsTrue V.tells → OnErr result ((state : State) → Stands state self.old → Stands state self.new) }
+        ensures calls { IfOk result (λ answer. self.new.calls ≡ counted (completes event.now answer) self.old.calls) }
+        ensures adds { IsTrue V.tells → IfOk result (λ answer. (state : State) → Stands state self.old → StepAdds state event.now self.new.hub.trail) }
+        ensures legal { (state : State) → Stands state self.new → HasLegalTrail state self.new }
+        ensures unheld { (state : State) → Stands state self.new → UnheldPagesAreRight state self.new }
+        ensures images { IsTrue V.tells →
+            Adds (V.moment self.old.vault) (V.moment self.new.vault) (V.images_since self.old.vault) (V.images_since self.new.vault) (V.images_now self.old.vault) }
+        ensures vault { OnlyReads V.tells V.size V.image V.version V.room V.doubt V.images_now V.moment V.images_since V.faults self.old.vault self.new.vault }
+        ensures sound { IsSound self.new }
+    {
+        let _mark: Option<Mark> = None;
+        let answer = self.carry_out(event)?;
+        if !is_call_made(event, &answer) {
+            return Ok(answer);
+        }
+        self.calls = self.calls.saturating_add(1);
+        Ok(answer)
+    }
+}
