@@ -1,6 +1,7 @@
-pub mod ArrayLemmas
+pub mod AtLemmas
 pub mod GrammarLemmas
 pub mod ReadingLemmas
-pub mod ReplayLemmas
 pub mod RunLemmas
+pub mod SessionLemmas
 pub mod TextLemmas
+pub mod WantLemmas

@@ -1,7 +1,7 @@
-use Rattle.std.proofs.Common.{◌≡◌, ◌+◌, ◌≤◌, ◌<◌, arith, ℕ, List, [], ◌∷◌, ◌++◌, Option, Some, None, Result, Ok, Err, ap, sym, subst, ◌∙◌, refl, length, length-append, fold, filter_map, append_assoc, inl, inr, take, drop}
+use Rattle.std.proofs.Common.{◌≡◌, ◌+◌, ◌≤◌, ◌<◌, arith, ℕ, List, [], ◌∷◌, ◌++◌, Option, Some, None, MatchOption, Result, Ok, Err, ap, sym, subst, ◌∙◌, refl, length, length-append, fold, filter_map, append_assoc, inl, inr, take, drop}
 use Rattle.std.proofs.lemmas.List.{append-nil, take-append-drop}
 use Rattle.std.proofs.lemmas.Grind.{flat_map-append}
-use Rattle.std.specs.Option.{option_map_or}
+use Rattle.std.specs.Option.{option_map_or, unwrap_or}
 use Rattle.std.specs.Io.KnownBytes.{append_known}
 use Rattle.casper_io.proofs.Known.{append_known-nil, append_known-append}
 use Rattle.casper_io.specs.Lines.{TakesLine}
@@ -12,12 +12,12 @@ use Rattle.std.proofs.lemmas.List.Sums.{fold-append}
 use Rattle.casper_space.specs.declared.answer.Answer.{Answer}
 use Rattle.casper_app.specs.declared.cause.Cause.{Cause}
 use Rattle.casper_app.specs.declared.cause.Cause.TheVariants as cause
-use Rattle.casper_app.specs.declared.schedule.Event.{Event}
+use Rattle.casper_model.specs.declared.event.Event.{Event}
 use Rattle.casper_app.specs.Session.{Session, at_start, after_event, session_after}
 use Rattle.casper_app.specs.Lines.{event_in, events_in, IsTaken, AreTaken}
 use Rattle.casper_app.specs.Replay.{ReadsLines, EndsFor, most_lines}
 use Rattle.casper_app.specs.Reading.{Stands, IsReading, WritesTextFor}
-use Rattle.casper_app.specs.Taking.{after_line, answer_in, answers_in, TakesInput, NextEnds}
+use Rattle.casper_app.specs.Taking.{after_line, answer_in, answers_in, IsCarriedOut, TakesInput, NextEnds}
 use Rattle.casper_app.specs.Texts.{answer_line, answer_lines}
 
 -- one more line stands behind those that were read
@@ -30,26 +30,26 @@ taken_more [] line each one = (one, tt)
 taken_more (first ∷ lines) line each one = (each.0, taken_more lines line each.1 one)
 
 -- what stands after one more line
-session_more : (pages : ℕ) (lines : List (List ℕ)) (line : List ℕ) → session_after pages (events_in (lines ++ line ∷ [])) ≡ after_line pages (session_after pages (events_in lines)) line
+session_more : (pages : ℕ) (lines : List (List ℕ)) (line : List ℕ) → session_after pages (events_in (lines ++ line ∷ [])) ≡ after_line (session_after pages (events_in lines)) line
 session_more pages lines line =
     ap (session_after pages) (filter_map-append event_in lines (line ∷ []))
-    ∙ fold-append (after_event pages) at_start (events_in lines) (events_in (line ∷ []))
+    ∙ fold-append after_event (at_start pages) (events_in lines) (events_in (line ∷ []))
     ∙ by_event (event_in line) (session_after pages (events_in lines))
   where
-    by_event : (asked : Option Event) (session : Session) → fold (after_event pages) session (filter_map (λ (l : List ℕ). asked) (line ∷ [])) ≡ option_map_or (after_event pages session) asked session
+    by_event : (asked : Option Event) (session : Session) → fold after_event session (filter_map (λ (l : List ℕ). asked) (line ∷ [])) ≡ option_map_or (after_event session) asked session
     by_event None session = refl
     by_event (Some asked) session = refl
 
 -- the answers after a line are those before it, and then the line's
-answers_more : (pages : ℕ) (session : Session) (line : List ℕ) → (after_line pages session line).answers ≡ session.answers ++ answers_in pages session line
-answers_more pages session line = by_event (event_in line)
+answers_more : (session : Session) (line : List ℕ) → (after_line session line).answers ≡ session.answers ++ answers_in session line
+answers_more session line = by_event (event_in line)
   where
-    by_event : (asked : Option Event) → (option_map_or (after_event pages session) asked session).answers ≡ session.answers ++ option_map_or (λ e. answer_in pages session e ∷ []) asked []
+    by_event : (asked : Option Event) → (option_map_or (after_event session) asked session).answers ≡ session.answers ++ option_map_or (λ e. answer_in session e ∷ []) asked []
     by_event None = sym (append-nil session.answers)
     by_event (Some asked) = refl
 
 -- before any line
-pub stands_first : (pages : ℕ) (left taken : Option (List ℕ)) → Stands pages 0 left left taken taken at_start
+pub stands_first : (pages : ℕ) (left taken : Option (List ℕ)) → Stands pages 0 left left taken taken (at_start pages)
 stands_first pages left taken = record { lines = []; counted = refl; reads = refl; each = tt; is = refl; written = sym (append_known-nil taken) }
 
 -- the text of more answers is written behind the text of those before
@@ -62,16 +62,16 @@ written_more first between last before more start end =
 -- after one more line that was taken
 pub stands_more : (pages count : ℕ) (first left last taken_first taken taken_last : Option (List ℕ)) (session session' : Session) (line : List ℕ)
     → Stands pages count first left taken_first taken session → WhereTold left last (TakesLine line) → IsTaken line
-    → session' ≡ after_line pages session line → taken_last ≡ append_known taken (answer_lines (answers_in pages session line))
+    → session' ≡ after_line session line → taken_last ≡ append_known taken (answer_lines (answers_in session line))
     → Stands pages (count + 1) first last taken_first taken_last session'
 stands_more pages count first left last taken_first taken taken_last session session' line stands takes one after written = record {
   lines = stands.lines ++ line ∷ [];
   counted = length-append stands.lines (line ∷ []) ∙ ap (λ (n : ℕ). n + 1) stands.counted;
   reads = reads_more first stands.lines left line last stands.reads takes;
   each = taken_more stands.lines line stands.each one;
-  is = after ∙ ap (λ (s : Session). after_line pages s line) stands.is ∙ sym (session_more pages stands.lines line);
-  written = written_more first_known taken taken_last session.answers (answers_in pages session line) stands.written written
-      ∙ ap (λ (answers : List Answer). append_known taken_first (answer_lines answers)) (sym (ap (λ (s : Session). s.answers) after ∙ answers_more pages session line));
+  is = after ∙ ap (λ (s : Session). after_line s line) stands.is ∙ sym (session_more pages stands.lines line);
+  written = written_more first_known taken taken_last session.answers (answers_in session line) stands.written written
+      ∙ ap (λ (answers : List Answer). append_known taken_first (answer_lines answers)) (sym (ap (λ (s : Session). s.answers) after ∙ answers_more session line));
 }
   where
     first_known : Option (List ℕ)
@@ -105,6 +105,8 @@ reading_ended pages count first left last taken_first taken session said stands 
   is = stands.is;
   out = answer_lines session.answers;
   taken_is = stands.written;
+  told = session.answers;
+  told_is = inl refl;
   written = all_written said next;
 }
   where
@@ -141,19 +143,41 @@ reading_past pages first left last taken_first taken session line stands takes =
   is = stands.is;
   out = answer_lines session.answers;
   taken_is = stands.written;
+  told = session.answers;
+  told_is = inl refl;
   written = refl;
 }
+
+-- what stood next behind as many lines as there may be
+pub reading_at_most : (pages count : ℕ) (first left last taken_first taken : Option (List ℕ)) (session : Session) (line : List ℕ) (found : Option Cause) (said : Cause)
+    → Stands pages count first left taken_first taken session → count ≡ most_lines
+    → MatchOption found (WhereTold left last (TakesLine line)) (λ ended. NextEnds ended (most_lines + 1) left last)
+    → said ≡ unwrap_or found (cause.BadLine (most_lines + 1))
+    → IsReading pages first last taken_first taken session said most_lines
+reading_at_most pages count first left last taken_first taken session line found said stands most next is =
+    let there = subst (λ (n : ℕ). Stands pages n first left taken_first taken session) most stands in
+    subst (λ (s : Cause). IsReading pages first last taken_first taken session s most_lines) (sym is) (by_found there found next)
+  where
+    by_found : Stands pages most_lines first left taken_first taken session → (f : Option Cause)
+        → MatchOption f (WhereTold left last (TakesLine line)) (λ ended. NextEnds ended (most_lines + 1) left last)
+        → IsReading pages first last taken_first taken session (unwrap_or f (cause.BadLine (most_lines + 1))) most_lines
+    by_found there None told = reading_past pages first left last taken_first taken session line there told
+    by_found there (Some ended) told = reading_ended pages most_lines first left last taken_first taken session ended there (omega arith) told
+
+-- an event that was carried out is that of its line
+after_carried : (session session' : Session) (line : List ℕ) → IsCarriedOut line session session' → session' ≡ after_line session line
+after_carried session session' line carried = carried.is ∙ ap (λ (asked : Option Event). option_map_or (after_event session) asked session) (sym carried.asks)
 
 -- a line was refused, or memory was short, or the sink failed at its answer
 pub reading_refused : (pages count : ℕ) (first left last taken_first taken taken_last : Option (List ℕ)) (session session' : Session) (line : List ℕ) (said : Cause)
     → Stands pages count first left taken_first taken session → count < most_lines → WhereTold left last (TakesLine line)
-    → TakesInput pages (count + 1) line session session' taken taken_last (Err said)
+    → TakesInput (count + 1) line session session' taken taken_last (Err said)
     → IsReading pages first last taken_first taken_last session' said count
 reading_refused pages count first left last taken_first taken taken_last session session' line cause.Done stands few takes h = absurd h
 reading_refused pages count first left last taken_first taken taken_last session session' line cause.Usage stands few takes h = absurd h
 reading_refused pages count first left last taken_first taken taken_last session session' line cause.Read stands few takes h = absurd h
 reading_refused pages count first left last taken_first taken taken_last session session' line cause.Write stands few takes h =
-    let front = front_more taken_first taken taken_last session.answers (answers_in pages session line) stands.written h.2 in record {
+    let front = front_more taken_first taken taken_last session.answers (answers_in session line) stands.written h.2 in record {
       lines = stands.lines ++ line ∷ [];
       rest = last;
       reads = reads_more first stands.lines left line last stands.reads takes;
@@ -161,24 +185,45 @@ reading_refused pages count first left last taken_first taken taken_last session
       few = omega (arith, length-append stands.lines (line ∷ []), stands.counted);
       counted = λ done. cc;
       ends = refl;
-      is = h.1 ∙ ap (λ (s : Session). after_line pages s line) stands.is ∙ sym (session_more pages stands.lines line);
+      is = h.1 ∙ ap (λ (s : Session). after_line s line) stands.is ∙ sym (session_more pages stands.lines line);
       out = front.0;
       taken_is = front.2;
-      written = (front.1, ap (λ (s : Session). answer_lines s.answers) h.1 ∙ ap answer_lines (answers_more pages session line) ∙ front.3);
+      told = session'.answers;
+      told_is = inl refl;
+      written = (front.1, ap (λ (s : Session). answer_lines s.answers) h.1 ∙ ap answer_lines (answers_more session line) ∙ front.3);
     }
-reading_refused pages count first left last taken_first taken taken_last session session' line cause.Memory stands few takes h = record {
-  lines = stands.lines;
-  rest = left;
-  reads = stands.reads;
-  each = stands.each;
-  few = omega (arith, stands.counted);
-  counted = λ done. stands.counted;
-  ends = inr (Ok next.Line, line, takes);
-  is = h.0 ∙ stands.is;
-  out = answer_lines session'.answers;
-  taken_is = h.1 ∙ stands.written ∙ ap (λ (s : Session). append_known taken_first (answer_lines s.answers)) (sym h.0);
-  written = refl;
-}
+reading_refused pages count first left last taken_first taken taken_last session session' line cause.Memory stands few takes h = elim h.0 [
+  | inl same ↦ record {
+    lines = stands.lines;
+    rest = left;
+    reads = stands.reads;
+    each = stands.each;
+    few = omega (arith, stands.counted);
+    counted = λ done. stands.counted;
+    ends = inr (Ok next.Line, line, takes);
+    is = same ∙ stands.is;
+    out = answer_lines session.answers;
+    taken_is = h.1 ∙ stands.written;
+    told = session.answers;
+    told_is = inl (ap (λ (s : Session). s.answers) same);
+    written = refl;
+  }
+  | inr carried ↦ record {
+    lines = stands.lines ++ line ∷ [];
+    rest = last;
+    reads = reads_more first stands.lines left line last stands.reads takes;
+    each = taken_more stands.lines line stands.each carried.taken;
+    few = omega (arith, length-append stands.lines (line ∷ []), stands.counted);
+    counted = λ done. cc;
+    ends = inl refl;
+    is = after_carried session session' line carried ∙ ap (λ (s : Session). after_line s line) stands.is ∙ sym (session_more pages stands.lines line);
+    out = answer_lines session.answers;
+    taken_is = h.1 ∙ stands.written;
+    told = session.answers;
+    told_is = inr (refl, answer_in session carried.asked, ap (λ (s : Session). s.answers) carried.is);
+    written = refl;
+  }
+]
 reading_refused pages count first left last taken_first taken taken_last session session' line (cause.BadLine n) stands few takes h = record {
   lines = stands.lines;
   rest = left;
@@ -190,6 +235,8 @@ reading_refused pages count first left last taken_first taken taken_last session
   is = h.2 ∙ stands.is;
   out = answer_lines session'.answers;
   taken_is = h.3 ∙ stands.written ∙ ap (λ (s : Session). append_known taken_first (answer_lines s.answers)) (sym h.2);
+  told = session'.answers;
+  told_is = inl refl;
   written = refl;
 }
 reading_refused pages count first left last taken_first taken taken_last session session' line (cause.Unbuilt n) stands few takes h = record {
@@ -203,13 +250,12 @@ reading_refused pages count first left last taken_first taken taken_last session
   is = h.2 ∙ stands.is;
   out = answer_lines session'.answers;
   taken_is = h.3 ∙ stands.written ∙ ap (λ (s : Session). append_known taken_first (answer_lines s.answers)) (sym h.2);
+  told = session'.answers;
+  told_is = inl refl;
   written = refl;
 }
 
--- what a line did, by its pages and its bytes in other words
-pub input_at : (pages pages' number : ℕ) (line line' : List ℕ) (session session' : Session) (taken taken_last : Option (List ℕ)) (result : Result (Unit {0}) Cause)
-    → pages ≡ pages' → line ≡ line' → TakesInput pages number line session session' taken taken_last result
-    → TakesInput pages' number line' session session' taken taken_last result
-input_at pages pages' number line line' session session' taken taken_last result same_pages same_line h =
-    subst (λ (p : ℕ). TakesInput p number line' session session' taken taken_last result) same_pages
-    (subst (λ (l : List ℕ). TakesInput pages number l session session' taken taken_last result) same_line h)
+-- what a line did, by its bytes in other words
+pub input_at : (number : ℕ) (line line' : List ℕ) (session session' : Session) (taken taken_last : Option (List ℕ)) (result : Result (Unit {0}) Cause)
+    → line ≡ line' → TakesInput number line session session' taken taken_last result → TakesInput number line' session session' taken taken_last result
+input_at number line line' session session' taken taken_last result same h = subst (λ (l : List ℕ). TakesInput number l session session' taken taken_last result) same h

@@ -1,21 +1,55 @@
-use Rattle.std.specs.Prelude.{◌≡◌, ℕ, ◌^◌, ◌<◌, List, [], ◌∷◌, Some, codes}
+use Rattle.std.specs.Prelude.{◌≡◌, ℕ, ◌^◌, ◌<◌, List, [], ◌∷◌, ◌++◌, Some, All, map, codes}
 use Rattle.std.specs.Fmt.{decimal}
 use Rattle.casper_words.specs.Crew.{IsClient}
-use Rattle.casper_app.specs.declared.schedule.Event.{Event}
-use Rattle.casper_app.specs.declared.schedule.Event.TheVariants as event
+use Rattle.casper_words.specs.Wants.{AreWants}
+use Rattle.casper_words.specs.declared.page.Right.{Right}
+use Rattle.casper_words.specs.declared.page.Right.TheVariants as may
+use Rattle.casper_words.specs.declared.page.Want.{Want}
+use Rattle.casper_model.specs.declared.event.Event.{Event}
+use Rattle.casper_model.specs.declared.event.Event.TheVariants as event
 use Rattle.casper_app.specs.Schedule.{event_of}
 
--- the words of the line that asks for an event
+abbrev pub right_text : Right → List ℕ
+right_text may.Read = codes "r"
+right_text may.Write = codes "w"
+
+-- the word that writes a want: its page and its right, with a colon between them
+abbrev pub want_text : Want → List ℕ
+want_text want = decimal want.page ++ 58 ∷ right_text want.right
+
+-- the words of the line that asks for an event, where such a line is built: no line asks for another event yet
 abbrev pub words_of_event : Event → List (List ℕ)
 words_of_event (event.Join who) = codes "join" ∷ decimal who ∷ []
 words_of_event (event.Read who page word) = codes "read" ∷ decimal who ∷ decimal page ∷ decimal word ∷ []
 words_of_event (event.Write who page word value) = codes "write" ∷ decimal who ∷ decimal page ∷ decimal word ∷ decimal value ∷ []
+words_of_event (event.Acquire who wants) = codes "acquire" ∷ decimal who ∷ map want_text wants
+words_of_event (event.Serve who) = codes "serve" ∷ decimal who ∷ []
+words_of_event (event.Depart who) = codes "depart" ∷ decimal who ∷ []
+words_of_event (event.Stabilise who) = []
+words_of_event (event.WriteOut lead) = []
+words_of_event (event.Finish lead) = []
+words_of_event event.Settle = []
+words_of_event (event.Vanish who) = []
+words_of_event (event.Lose who) = []
 
--- the numbers of an event are in their ranges
+-- one to four wants, with pages strictly rising, each with a number below 2 ^ 32
+abbrev pub AreAsked : List Want → Type 0
+AreAsked wants = AreWants wants × All (λ want. want.page < 2 ^ 32) wants
+
+-- an event that a built line may ask for: its numbers are in their ranges
 abbrev pub IsEvent : Event → Type 0
 IsEvent (event.Join who) = IsClient who
 IsEvent (event.Read who page word) = IsClient who × (page < 2 ^ 32) × (word < 2 ^ 32)
 IsEvent (event.Write who page word value) = IsClient who × (page < 2 ^ 32) × (word < 2 ^ 32) × (value < 2 ^ 64)
+IsEvent (event.Acquire who wants) = IsClient who × AreAsked wants
+IsEvent (event.Serve who) = IsClient who
+IsEvent (event.Depart who) = IsClient who
+IsEvent (event.Stabilise who) = ⊥
+IsEvent (event.WriteOut lead) = ⊥
+IsEvent (event.Finish lead) = ⊥
+IsEvent event.Settle = ⊥
+IsEvent (event.Vanish who) = ⊥
+IsEvent (event.Lose who) = ⊥
 
 -- the words of an event's line ask for that event
 abbrev pub EventsAreReadBack : Type 0

@@ -1,13 +1,13 @@
+pub mod At
 pub mod Command
 pub mod Ending
 pub mod Grammar
 pub mod Lines
+pub mod Machine
 pub mod Reading
 pub mod Replay
 pub mod Schedule
 pub mod Session
-pub mod Shown
 pub mod Status
 pub mod Taking
 pub mod Texts
-pub mod Words

@@ -1,5 +1,5 @@
 use Rattle.std.specs.Prelude.{ℕ, List, [], ◌∷◌, Option, None, Some, filter_map}
-use Rattle.casper_app.specs.declared.schedule.Event.{Event}
+use Rattle.casper_model.specs.declared.event.Event.{Event}
 use Rattle.casper_app.specs.declared.schedule.Parsed.{Parsed}
 use Rattle.casper_app.specs.declared.schedule.Parsed.TheVariants as parsed
 use Rattle.casper_app.specs.Schedule.{parsed_line}

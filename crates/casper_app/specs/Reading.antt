@@ -1,10 +1,11 @@
 use Rattle.std.specs.Prelude.{◌≡◌, ℕ, ◌≤◌, List, ◌++◌, length, Option}
 use Rattle.std.specs.Io.KnownBytes.{append_known}
+use Rattle.casper_space.specs.declared.answer.Answer.{Answer}
 use Rattle.casper_app.specs.declared.cause.Cause.{Cause}
 use Rattle.casper_app.specs.declared.cause.Cause.TheVariants as cause
 use Rattle.casper_app.specs.Session.{Session, session_after}
 use Rattle.casper_app.specs.Lines.{events_in, AreTaken}
-use Rattle.casper_app.specs.Replay.{ReadsLines, EndsFor, most_lines}
+use Rattle.casper_app.specs.Replay.{ReadsLines, EndsFor, IsTold, most_lines}
 use Rattle.casper_app.specs.Texts.{answer_lines}
 
 -- so many lines were skipped or answered, from the bytes left at first, and their answers were written
@@ -38,4 +39,6 @@ pub record IsReading (pages : ℕ) (first left taken_first taken : Option (List 
   pub is : session ≡ session_after pages (events_in lines)
   pub out : List ℕ
   pub taken_is : taken ≡ append_known taken_first out
-  pub written : WritesTextFor said (answer_lines session.answers) out
+  pub told : List Answer
+  pub told_is : IsTold said session.answers told
+  pub written : WritesTextFor said (answer_lines told) out

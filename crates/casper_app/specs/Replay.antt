@@ -4,13 +4,13 @@ use Rattle.casper_io.specs.declared.lines.Next.{Next}
 use Rattle.casper_io.specs.Lines.{Takes, TakesLine, TakesEnd, TakesTooLong, TakesPart}
 use Rattle.casper_io.specs.Told.{WhereTold}
 use Rattle.casper_trail.specs.declared.item.Item.{Item}
-use Rattle.casper_trail.specs.TrailView.{entry_count}
 use Rattle.casper_space.specs.declared.answer.Answer.{Answer}
 use Rattle.casper_app.specs.declared.cause.Cause.{Cause}
 use Rattle.casper_app.specs.declared.cause.Cause.TheVariants as cause
 use Rattle.casper_app.specs.declared.schedule.Parsed.TheVariants as parsed
 use Rattle.casper_app.specs.Schedule.{parsed_line}
-use Rattle.casper_app.specs.Session.{session_after}
+use Rattle.casper_app.specs.declared.summary.Summary.{Summary}
+use Rattle.casper_app.specs.Session.{Session, session_after, trail_of, summary_of}
 use Rattle.casper_app.specs.Lines.{events_in, AreTaken}
 use Rattle.casper_app.specs.Texts.{answer_lines, summary_line, cause_line}
 
@@ -47,18 +47,22 @@ EndsFor (cause.BadLine number) count before after = (number ≡ count + 1) × Ta
 EndsFor (cause.Unbuilt number) count before after = (number ≡ count + 1) × TakesUnbuilt number before after
 
 -- the line that tells how a replay ended
-abbrev pub ending_line : Cause → ℕ → ℕ → List ℕ
-ending_line cause.Done lines calls = summary_line lines calls
-ending_line cause.Usage lines calls = cause_line cause.Usage
-ending_line cause.Read lines calls = cause_line cause.Read
-ending_line cause.Write lines calls = cause_line cause.Write
-ending_line cause.Memory lines calls = cause_line cause.Memory
-ending_line (cause.BadLine number) lines calls = cause_line (cause.BadLine number)
-ending_line (cause.Unbuilt number) lines calls = cause_line (cause.Unbuilt number)
+abbrev pub ending_line : Cause → Summary → List ℕ
+ending_line cause.Done summary = summary_line summary
+ending_line cause.Usage summary = cause_line cause.Usage
+ending_line cause.Read summary = cause_line cause.Read
+ending_line cause.Write summary = cause_line cause.Write
+ending_line cause.Memory summary = cause_line cause.Memory
+ending_line (cause.BadLine number) summary = cause_line (cause.BadLine number)
+ending_line (cause.Unbuilt number) summary = cause_line (cause.Unbuilt number)
 
 -- a text was written whole, and the cause stands; or a front of it, and the sink failed
 abbrev pub WritesFor : Cause → Cause → List ℕ → List ℕ → Type 0
 WritesFor said last text out = ((last ≡ said) × (out ≡ text)) ⊎ ((last ≡ cause.Write) × (rest : List ℕ) × (text ≡ out ++ rest))
+
+-- the answers whose text was meant to be written: all, or all but the last, for whose text memory was short
+abbrev pub IsTold : Cause → List Answer → List Answer → Type 0
+IsTold said answers told = (answers ≡ told) ⊎ ((said ≡ cause.Memory) × (last : Answer) × (answers ≡ told ++ last ∷ []))
 
 -- a replay over a store of so many zero pages, from the bytes left before to those left after it
 pub record IsReplay (pages : ℕ) (before after : Option (List ℕ)) (answers : List Answer) (items : List Item) (last : Cause) (out : List ℕ) : Type 0 where
@@ -71,11 +75,19 @@ pub record IsReplay (pages : ℕ) (before after : Option (List ℕ)) (answers : 
   -- why the reading ended
   pub said : Cause
   pub ends : EndsFor said (length lines) rest after
-  -- the answers and the trail are those of the events that the lines ask for
-  pub answered : answers ≡ (session_after pages (events_in lines)).answers
-  pub recorded : items ≡ (session_after pages (events_in lines)).items
+  -- what stands behind the events that the lines ask for: the answers and the trail are its own
+  pub session : Session
+  pub is : session ≡ session_after pages (events_in lines)
+  pub answered : answers ≡ session.answers
+  pub recorded : items ≡ trail_of session
   -- the answers were written, and then how it ended
-  pub written : WritesFor said last (answer_lines answers ++ ending_line said (length lines) (entry_count items)) out
+  pub told : List Answer
+  pub told_is : IsTold said answers told
+  pub written : WritesFor said last (answer_lines told ++ ending_line said (summary_of (length lines) session)) out
+
+-- what the last line would tell where nothing was read
+abbrev pub unread_summary : Summary
+unread_summary = record { lines = 0; calls = 0; commits = 0; rollbacks = 0; version = 1 }
 
 -- words that are no command, or one that is not built: nothing was read or answered
 pub record IsRefusal (refused : Cause) (before after : Option (List ℕ)) (answers : List Answer) (items : List Item) (last : Cause) (out : List ℕ) : Type 0 where
@@ -84,4 +96,4 @@ pub record IsRefusal (refused : Cause) (before after : Option (List ℕ)) (answe
   pub recorded : items ≡ []
   pub said : Cause
   pub cause : (said ≡ refused) ⊎ (said ≡ cause.Memory)
-  pub written : WritesFor said last (ending_line said 0 0) out
+  pub written : WritesFor said last (ending_line said unread_summary) out

@@ -5,6 +5,7 @@ use Rattle.casper_space.specs.declared.answer.Answer.{Answer}
 use Rattle.casper_space.specs.declared.answer.Answer.TheVariants as answer
 use Rattle.casper_app.specs.declared.cause.Cause.{Cause}
 use Rattle.casper_app.specs.declared.cause.Cause.TheVariants as cause
+use Rattle.casper_app.specs.declared.summary.Summary.{Summary}
 
 -- a text as a line of its own
 abbrev pub as_line : List ℕ → List ℕ
@@ -75,10 +76,11 @@ answer_line (answer.Reopened version) = word_line (codes "reopened") version
 abbrev pub answer_lines : List Answer → List ℕ
 answer_lines answers = flat_map answer_line answers
 
--- the line that ends a schedule whose every line was answered: how many lines were read, and how many reads and writes completed
-abbrev pub summary_line : ℕ → ℕ → List ℕ
-summary_line lines calls =
-    joined (codes "end lines=" ∷ decimal lines ∷ codes " calls=" ∷ decimal calls ∷ codes " commits=0 rollbacks=0 version=1" ∷ codes "\n" ∷ [])
+-- the line that ends a schedule whose every line was answered
+abbrev pub summary_line : Summary → List ℕ
+summary_line summary =
+    joined (codes "end lines=" ∷ decimal summary.lines ∷ codes " calls=" ∷ decimal summary.calls ∷ codes " commits=" ∷ decimal summary.commits
+    ∷ codes " rollbacks=" ∷ decimal summary.rollbacks ∷ codes " version=" ∷ decimal summary.version ∷ codes "\n" ∷ [])
 
 -- the line for a status other than 0, which comes last
 abbrev pub cause_line : Cause → List ℕ

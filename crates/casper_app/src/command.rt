@@ -1,4 +1,4 @@
-ghost use Rattle.std.specs.Prelude.{◌≡◌, ◌≤◌};
+ghost use Rattle.std.specs.Prelude.{◌≡◌, ◌≤◌, IfOk};
 ghost use Rattle.casper_app.specs.Command.{asked, replay_of, store_of, pages_in, is_command as is_command_in};
 
 use crate::Cause;
@@ -9,7 +9,8 @@ const MOST_PAGES: u64 = 16_384;
 
 /// How many zero pages the words ask a replay over, or the cause that refuses them.
 pub(crate) fn pages_asked(words: &[Word]) -> Result<u32, Cause>
-    ensures { result ≡ asked words.now }
+    ensures asked { result ≡ asked words.now }
+    ensures few { IfOk result (λ pages. pages ≤ 16384) }
 {
     match words {
         [] => Err(Cause::Usage),
@@ -38,7 +39,8 @@ fn is_command(word: &[u8]) -> bool
 }
 
 fn replay_pages(rest: &[Word]) -> Result<u32, Cause>
-    ensures { result ≡ replay_of rest.now }
+    ensures asked { result ≡ replay_of rest.now }
+    ensures few { IfOk result (λ pages. pages ≤ 16384) }
 {
     match rest {
         [store] => store_pages(store.text().as_bytes()),
@@ -47,7 +49,8 @@ fn replay_pages(rest: &[Word]) -> Result<u32, Cause>
 }
 
 fn store_pages(store: &[u8]) -> Result<u32, Cause>
-    ensures { result ≡ store_of store.now }
+    ensures asked { result ≡ store_of store.now }
+    ensures few { IfOk result (λ pages. pages ≤ 16384) }
 {
     match store.strip_prefix(b"mem:") {
         Some(pages) => pages_of(pages),
@@ -56,7 +59,8 @@ fn store_pages(store: &[u8]) -> Result<u32, Cause>
 }
 
 fn pages_of(text: &[u8]) -> Result<u32, Cause>
-    ensures { result ≡ pages_in text.now }
+    ensures asked { result ≡ pages_in text.now }
+    ensures few { IfOk result (λ pages. pages ≤ 16384) }
 {
     match number(text) {
         Some(pages) if 1 <= pages && pages <= MOST_PAGES => Ok(pages as u32),

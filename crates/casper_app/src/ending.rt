@@ -4,6 +4,7 @@ ghost use Rattle.casper_app.specs.Replay.{ending_line};
 ghost use Rattle.casper_app.specs.Ending.{EndsWith, WritesLast};
 
 use crate::Cause;
+use crate::summary::Summary;
 use crate::text::{cause_text, summary_text};
 use casper_io::{Sink, put_all};
 use casper_words::Memory;
@@ -14,10 +15,9 @@ pub(crate) fn write_ending<K: Sink>(
     alloc: Global,
     sink: &mut K,
     meant: Cause,
-    lines: u32,
-    calls: u32,
+    summary: &Summary,
 ) -> Cause
-    ensures ends { EndsWith meant result lines calls (K.taken sink.old) (K.taken sink.new) }
+    ensures ends { EndsWith meant result summary.now (K.taken sink.old) (K.taken sink.new) }
     ensures fault { result ≡ Cause.Write → (meant ≡ Cause.Write) ⊎ Rose (K.faults sink.old) (K.faults sink.new) }
     ensures never_falls { K.faults sink.old ≤ K.faults sink.new }
     ensures read { result ≡ Cause.Read → meant ≡ Cause.Read }
@@ -26,18 +26,18 @@ pub(crate) fn write_ending<K: Sink>(
     if let Cause::Write = meant {
         return Cause::Write;
     }
-    match ending_text(alloc, meant, lines, calls) {
+    match ending_text(alloc, meant, summary) {
         Ok(text) => write_last(sink, text.as_bytes(), meant),
         Err(Memory) => write_last(sink, b"no memory\n", Cause::Memory),
     }
 }
 
 /// The line that tells how a call ended.
-fn ending_text(alloc: Global, said: Cause, lines: u32, calls: u32) -> Result<String, Memory>
-    ensures { IfOk result (λ text. string_bytes text ≡ ending_line said lines calls) }
+fn ending_text(alloc: Global, said: Cause, summary: &Summary) -> Result<String, Memory>
+    ensures { IfOk result (λ text. string_bytes text ≡ ending_line said summary.now) }
 {
     match said {
-        Cause::Done => summary_text(alloc, lines, calls),
+        Cause::Done => summary_text(alloc, summary),
         _ => cause_text(alloc, &said),
     }
 }

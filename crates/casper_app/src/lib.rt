@@ -1,7 +1,6 @@
 //! The top call: it reads the lines of a schedule, answers each before it reads the next, and says what stands at its end.
 #![tactic(auto)]
 
-mod array;
 mod cause;
 mod command;
 mod ending;
@@ -9,10 +8,11 @@ mod laws;
 mod lines;
 mod replay;
 mod schedule;
+mod summary;
 mod taking;
 mod text;
 mod top;
 
 pub use cause::Cause;
-pub use laws::schedule_laws;
+pub use laws::{schedule_laws, session_laws};
 pub use top::{Ended, run};

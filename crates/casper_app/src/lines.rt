@@ -1,6 +1,7 @@
-ghost use Rattle.std.specs.Prelude.{◌≡◌, ◌+◌, ◌<◌, ◌≤◌, ℕ, [], List, Option};
+ghost use Rattle.std.specs.Prelude.{◌≡◌, ◌+◌, ◌<◌, ◌≤◌, ℕ};
 ghost use Rattle.casper_words.specs.Count.{Rose};
-ghost use Rattle.casper_app.specs.Shown.{shown, IsRight};
+ghost use Rattle.casper_app.specs.At.{IsAt};
+ghost use Rattle.casper_app.specs.Session.{Session, at_start};
 ghost use Rattle.casper_app.specs.Reading.{IsReading};
 
 use crate::Cause;
@@ -30,9 +31,9 @@ pub(crate) fn take_lines<S: Source, K: Sink>(
     source: &mut S,
     sink: &mut K,
 ) -> Reading
-    requires right { IsRight replay.old }
-    requires start { shown replay.old ≡ record { joined = []; items = []; answers = [] } }
-    ensures reading { IsReading replay.old.pages (S.left source.old) (S.left source.new) (K.taken sink.old) (K.taken sink.new) (shown replay.new) result.said result.lines }
+    requires { replay.old.core.calls ≡ 0 }
+    ensures reading { (pages : ℕ) → IsAt (at_start pages) replay.old → (session : Session) × IsAt session replay.new
+        × IsReading pages (S.left source.old) (S.left source.new) (K.taken sink.old) (K.taken sink.new) session result.said result.lines }
     ensures read_fault { result.said ≡ Cause.Read → Rose (S.faults source.old) (S.faults source.new) }
     ensures write_fault { result.said ≡ Cause.Write → Rose (K.faults sink.old) (K.faults sink.new) }
     ensures source_never_falls { S.faults source.old ≤ S.faults source.new }

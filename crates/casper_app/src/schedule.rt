@@ -1,23 +1,13 @@
-ghost use Rattle.std.specs.Prelude.{◌≡◌, [], ◌∷◌, ◌<◌, ◌≤◌, ◌^◌, length, map, All, IfOk};
+ghost use Rattle.std.specs.Prelude.{◌≡◌, [], ◌∷◌, ◌<◌, ◌≤◌, ◌^◌, length, map, position, All, IfOk, IfSome};
 ghost use Rattle.casper_text.specs.Span.{IsWithin, word_at};
-ghost use Rattle.casper_app.specs.Schedule.{client_of as client_in, place_of as place_in, event_of as event_in, is_unbuilt as begins_unbuilt, is_unbuilt_verb as among_unbuilt, is_comment as begins_comment, parsed_words as words_parsed, parsed_line as line_parsed};
+ghost use Rattle.casper_app.specs.Schedule.{client_of as client_in, lone_client as lone_client_in, place_of as place_in, right_of as right_in, want_of as want_in, wants_of as wants_in, rising_wants, is_colon, join_of, read_of, write_of, acquire_of, serve_of, depart_of, event_of as event_in, is_unbuilt as begins_unbuilt, is_unbuilt_verb as among_unbuilt, is_comment as begins_comment, parsed_words as words_parsed, parsed_line as line_parsed};
 
+use casper_model::Event;
 use casper_text::{Span, number, small_number, words_of};
-use casper_words::{Memory, Page, Who};
+use casper_words::{Memory, Page, Right, Want, Wants, Who};
 use std::alloc::Global;
 
-/// What a line of a schedule asks for.
-#[derive(Clone, Copy, Debug, PartialEq, Eq)]
-pub enum Event {
-    /// A client joins.
-    Join(Who),
-    /// A client reads a word of a page.
-    Read(Who, Page, u32),
-    /// A client writes a word of a page.
-    Write(Who, Page, u32, u64),
-}
-
-/// What a line is.
+/// What a line of a schedule is.
 #[derive(Clone, Copy, Debug, PartialEq, Eq)]
 pub enum Parsed {
     /// A line that is counted and not answered.
@@ -30,7 +20,7 @@ pub enum Parsed {
     Bad,
 }
 
-/// Reads a line of at most 1,024 bytes.
+/// Reads a line of at most 1,024 bytes. Memory is asked for the list of its words alone.
 pub(crate) fn parse_line(alloc: Global, line: &[u8]) -> Result<Parsed, Memory>
     requires { length line.now ≤ 1024 }
     ensures { IfOk result (λ parsed. parsed ≡ line_parsed line.now) }
@@ -66,55 +56,93 @@ fn event_of(line: &[u8], spans: &[Span]) -> Option<Event>
     requires { All (IsWithin line.now) spans.now }
     ensures { result ≡ event_in (map (word_at line.now) spans.now) }
 {
-    match spans {
-        [verb, client] => join(verb.of(line), client.of(line)),
-        [verb, client, page, word] => read(
-            verb.of(line),
-            client.of(line),
-            page.of(line),
-            word.of(line),
-        ),
-        [verb, client, page, word, value] => write(
-            verb.of(line),
-            client.of(line),
-            page.of(line),
-            word.of(line),
-            value.of(line),
-        ),
+    let [verb, rest @ ..] = spans else {
+        return None;
+    };
+    let verb = verb.of(line);
+    if verb == b"join".as_slice() {
+        join(line, rest)
+    } else if verb == b"read".as_slice() {
+        read(line, rest)
+    } else if verb == b"write".as_slice() {
+        write(line, rest)
+    } else if verb == b"acquire".as_slice() {
+        acquire(line, rest)
+    } else if verb == b"serve".as_slice() {
+        serve(line, rest)
+    } else if verb == b"depart".as_slice() {
+        depart(line, rest)
+    } else {
+        None
+    }
+}
+
+fn join(line: &[u8], rest: &[Span]) -> Option<Event>
+    requires { All (IsWithin line.now) rest.now }
+    ensures { result ≡ join_of (map (word_at line.now) rest.now) }
+{
+    Some(Event::Join(lone_client(line, rest)?))
+}
+
+fn serve(line: &[u8], rest: &[Span]) -> Option<Event>
+    requires { All (IsWithin line.now) rest.now }
+    ensures { result ≡ serve_of (map (word_at line.now) rest.now) }
+{
+    Some(Event::Serve(lone_client(line, rest)?))
+}
+
+fn depart(line: &[u8], rest: &[Span]) -> Option<Event>
+    requires { All (IsWithin line.now) rest.now }
+    ensures { result ≡ depart_of (map (word_at line.now) rest.now) }
+{
+    Some(Event::Depart(lone_client(line, rest)?))
+}
+
+fn read(line: &[u8], rest: &[Span]) -> Option<Event>
+    requires { All (IsWithin line.now) rest.now }
+    ensures { result ≡ read_of (map (word_at line.now) rest.now) }
+{
+    let [client, page, word] = rest else {
+        return None;
+    };
+    let who = client_of(client.of(line))?;
+    let page = Page(place_of(page.of(line))?);
+    Some(Event::Read(who, page, place_of(word.of(line))?))
+}
+
+fn write(line: &[u8], rest: &[Span]) -> Option<Event>
+    requires { All (IsWithin line.now) rest.now }
+    ensures { result ≡ write_of (map (word_at line.now) rest.now) }
+{
+    let [client, page, word, value] = rest else {
+        return None;
+    };
+    let who = client_of(client.of(line))?;
+    let page = Page(place_of(page.of(line))?);
+    let word = place_of(word.of(line))?;
+    Some(Event::Write(who, page, word, number(value.of(line))?))
+}
+
+fn acquire(line: &[u8], rest: &[Span]) -> Option<Event>
+    requires { All (IsWithin line.now) rest.now }
+    ensures { result ≡ acquire_of (map (word_at line.now) rest.now) }
+{
+    let [client, wants @ ..] = rest else {
+        return None;
+    };
+    let who = client_of(client.of(line))?;
+    Some(Event::Acquire(who, wants_of(line, wants)?))
+}
+
+/// The client of words that name one and nothing more.
+fn lone_client(line: &[u8], rest: &[Span]) -> Option<Who>
+    requires { All (IsWithin line.now) rest.now }
+    ensures { result ≡ lone_client_in (map (word_at line.now) rest.now) }
+{
+    match rest {
+        [client] => client_of(client.of(line)),
         _ => None,
     }
-}
-
-fn join(verb: &[u8], client: &[u8]) -> Option<Event>
-    ensures { result ≡ event_in (verb.now ∷ client.now ∷ []) }
-{
-    if verb != b"join".as_slice() {
-        return None;
-    }
-    Some(Event::Join(client_of(client)?))
-}
-
-fn read(verb: &[u8], client: &[u8], page: &[u8], word: &[u8]) -> Option<Event>
-    ensures { result ≡ event_in (verb.now ∷ client.now ∷ page.now ∷ word.now ∷ []) }
-{
-    if verb != b"read".as_slice() {
-        return None;
-    }
-    let who = client_of(client)?;
-    let page = Page(place_of(page)?);
-    Some(Event::Read(who, page, place_of(word)?))
-}
-
-fn write(verb: &[u8], client: &[u8], page: &[u8], word: &[u8], value: &[u8]) -> Option<Event>
-    ensures { result ≡ event_in (verb.now ∷ client.now ∷ page.now ∷ word.now ∷ value.now ∷ []) }
-{
-    if verb != b"write".as_slice() {
-        return None;
-    }
-    let who = client_of(client)?;
-    let page = Page(place_of(page)?);
-    let word = place_of(word)?;
-    Some(Event::Write(who, page, word, number(value)?))
 }
 
 fn client_of(word: &[u8]) -> Option<Who>
@@ -129,6 +157,65 @@ fn place_of(word: &[u8]) -> Option<u32>
     small_number(word)
 }
 
+/// The wants that one to four words write, with pages strictly rising.
+fn wants_of(line: &[u8], words: &[Span]) -> Option<Wants>
+    requires { All (IsWithin line.now) words.now }
+    ensures { result ≡ wants_in (map (word_at line.now) words.now) }
+{
+    match words {
+        [] => None,
+        [first] => rising(&[want_of(first.of(line))?]),
+        [first, second] => rising(&[want_of(first.of(line))?, want_of(second.of(line))?]),
+        [first, second, third] => rising(&[
+            want_of(first.of(line))?,
+            want_of(second.of(line))?,
+            want_of(third.of(line))?,
+        ]),
+        [first, second, third, fourth] => rising(&[
+            want_of(first.of(line))?,
+            want_of(second.of(line))?,
+            want_of(third.of(line))?,
+            want_of(fourth.of(line))?,
+        ]),
+        _ => None,
+    }
+}
+
+/// The wants of a list that one acquire may ask for.
+fn rising(list: &[Want]) -> Option<Wants>
+    ensures { result ≡ rising_wants list.now }
+{
+    Wants::new(list)
+}
+
+/// The want that a word writes: a page's number, a colon, and `r` or `w`.
+fn want_of(word: &[u8]) -> Option<Want>
+    ensures { result ≡ want_in word.now }
+{
+    let colon = first_colon(word)?;
+    let page = Page(place_of(&word[..colon])?);
+    let right = right_of(&word[colon + 1..])?;
+    Some(Want { page, right })
+}
+
+/// The place of the first colon in a word, if it has one.
+fn first_colon(word: &[u8]) -> Option<usize>
+    ensures place { result ≡ position is_colon word.now }
+    ensures within { IfSome result (λ colon. colon < length word.now) }
+{
+    word.iter().position(|byte| *byte == b':')
+}
+
+fn right_of(word: &[u8]) -> Option<Right>
+    ensures { result ≡ right_in word.now }
+{
+    match word {
+        [b'r'] => Some(Right::Read),
+        [b'w'] => Some(Right::Write),
+        _ => None,
+    }
+}
+
 /// Tells whether a line that begins with this word is of a known form that is not built yet.
 fn is_unbuilt(first: &[u8]) -> bool
     ensures { result ≡ begins_unbuilt first.now }
@@ -139,13 +226,10 @@ fn is_unbuilt(first: &[u8]) -> bool
 fn is_unbuilt_verb(first: &[u8]) -> bool
     ensures { result ≡ among_unbuilt first.now }
 {
-    first == b"acquire".as_slice()
-        || first == b"serve".as_slice()
-        || first == b"stabilise".as_slice()
+    first == b"stabilise".as_slice()
         || first == b"writeout".as_slice()
         || first == b"finish".as_slice()
         || first == b"settle".as_slice()
-        || first == b"depart".as_slice()
         || first == b"vanish".as_slice()
         || first == b"lose".as_slice()
         || first == b"reopen".as_slice()

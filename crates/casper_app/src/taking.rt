@@ -1,16 +1,18 @@
-ghost use Rattle.std.specs.Prelude.{◌≡◌, ◌+◌, ◌<◌, ◌≤◌, length, MatchOption, Some, Err};
+ghost use Rattle.std.specs.Prelude.{◌≡◌, ◌≢◌, ◌+◌, ◌<◌, ◌≤◌, length, MatchOption, Some, Err};
+ghost use Rattle.casper_core.specs.Stepping.{IsBuilt};
 ghost use Rattle.casper_words.specs.Count.{Rose};
 ghost use Rattle.casper_io.specs.Lines.{TakesLine};
 ghost use Rattle.casper_io.specs.Told.{WhereTold};
-ghost use Rattle.casper_trail.specs.TrailView.{entry_count};
-ghost use Rattle.casper_app.specs.Shown.{shown, IsRight};
+ghost use Rattle.casper_app.specs.At.{IsAt};
+ghost use Rattle.casper_app.specs.Session.{Session};
 ghost use Rattle.casper_app.specs.Taking.{TakesEvent, TakesInput, NextEnds};
 
 use crate::Cause;
 use crate::replay::Replay;
-use crate::schedule::{Event, Parsed, parse_line};
+use crate::schedule::{Parsed, parse_line};
 use crate::text::answer_text;
 use casper_io::{IoFault, Line, Next, Sink, Source, next_line, put_all};
+use casper_model::Event;
 use std::alloc::Global;
 
 /// Reads the next line into `line`. Some cause where no line stands next; the line would have been of this number.
@@ -39,13 +41,12 @@ impl Replay {
         line: &[u8],
         sink: &mut K,
     ) -> Result<(), Cause>
-        requires right { IsRight self.old }
-        requires few { entry_count self.old.trail.items < 4194304 }
+        requires few { self.old.core.calls < 1048576 }
         requires short { length line.now ≤ 1024 }
-        ensures pages { self.new.pages ≡ self.old.pages }
-        ensures right { IsRight self.new }
-        ensures takes { TakesInput self.old.pages number line.now (shown self.old) (shown self.new) (K.taken sink.old) (K.taken sink.new) result }
-        ensures entries { entry_count self.new.trail.items ≤ entry_count self.old.trail.items + 1 }
+        ensures takes { (session : Session) → IsAt session self.old → (after : Session) × IsAt after self.new
+            × TakesInput number line.now session after (K.taken sink.old) (K.taken sink.new) result }
+        ensures calls { self.new.core.calls ≤ self.old.core.calls + 1 }
+        ensures read { result ≢ Err Cause.Read }
         ensures fault { result ≡ Err Cause.Write → Rose (K.faults sink.old) (K.faults sink.new) }
         ensures never_falls { K.faults sink.old ≤ K.faults sink.new }
     {
@@ -64,18 +65,17 @@ impl Replay {
         event: &Event,
         sink: &mut K,
     ) -> Result<(), Cause>
-        requires right { IsRight self.old }
-        requires few { entry_count self.old.trail.items < 4194304 }
-        ensures pages { self.new.pages ≡ self.old.pages }
-        ensures right { IsRight self.new }
-        ensures takes { TakesEvent self.old.pages event.now (shown self.old) (shown self.new) (K.taken sink.old) (K.taken sink.new) result }
-        ensures entries { entry_count self.new.trail.items ≤ entry_count self.old.trail.items + 1 }
+        requires built { IsBuilt event.now }
+        requires few { self.old.core.calls < 1048576 }
+        ensures takes { (session : Session) → IsAt session self.old → (after : Session) × IsAt after self.new
+            × TakesEvent event.now session after (K.taken sink.old) (K.taken sink.new) result }
+        ensures calls { self.new.core.calls ≤ self.old.core.calls + 1 }
+        ensures read { result ≢ Err Cause.Read }
         ensures fault { result ≡ Err Cause.Write → Rose (K.faults sink.old) (K.faults sink.new) }
         ensures never_falls { K.faults sink.old ≤ K.faults sink.new }
     {
-        let answer = self.answer(event);
+        let answer = self.carry_out(event)?;
         let text = answer_text(alloc, &answer)?;
-        self.carry_out(event, answer)?;
         match put_all(sink, text.as_bytes()) {
             Ok(()) => Ok(()),
             Err(IoFault::Failed) => Err(Cause::Write),

@@ -4,6 +4,7 @@ ghost use Rattle.casper_words.specs.Crew.{has_member, IsCrew};
 ghost use Rattle.casper_app.specs.Texts.{answer_line, cause_line, summary_line, word_line, pair_line, frames_line, crew_line};
 
 use crate::Cause;
+use crate::summary::Summary;
 use casper_space::Answer;
 use casper_words::{Crew, Memory, Who};
 use std::alloc::{AllocError, Global};
@@ -117,11 +118,18 @@ fn push_member(text: &mut String, crew: Crew, number: u32) -> Result<(), AllocEr
 }
 
 /// The line that ends a schedule whose every line was answered.
-pub(crate) fn summary_text(alloc: Global, lines: u32, calls: u32) -> Result<String, Memory>
-    ensures { IfOk result (λ text. string_bytes text ≡ summary_line lines calls) }
+pub(crate) fn summary_text(alloc: Global, summary: &Summary) -> Result<String, Memory>
+    ensures { IfOk result (λ text. string_bytes text ≡ summary_line summary.now) }
 {
+    let Summary {
+        lines,
+        calls,
+        commits,
+        rollbacks,
+        version,
+    } = summary;
     let text = format!(in alloc;
-        "end lines={lines} calls={calls} commits=0 rollbacks=0 version=1\n"
+        "end lines={lines} calls={calls} commits={commits} rollbacks={rollbacks} version={version}\n"
     )?;
     Ok(text)
 }

@@ -1,16 +1,17 @@
-ghost use Rattle.std.specs.Prelude.{◌≡◌, [], ◌⊎◌, IfSome, IfOk};
+ghost use Rattle.std.specs.Prelude.{◌≡◌, ◌≤◌, [], ◌⊎◌, IfSome, IfOk};
 ghost use Rattle.casper_words.specs.Count.{Rose};
-ghost use Rattle.casper_trail.specs.Legal.{IsLegal};
-ghost use Rattle.casper_trail.specs.Value.{zero_pages};
-ghost use Rattle.casper_app.specs.Shown.{shown, IsRight};
+ghost use Rattle.casper_app.specs.At.{IsAt};
+ghost use Rattle.casper_app.specs.Replay.{unread_summary};
+ghost use Rattle.casper_app.specs.Session.{at_start};
 ghost use Rattle.casper_app.specs.Status.{status_of};
-ghost use Rattle.casper_app.specs.Ending.{IsRun, IsLegalRun, RunsReplay, EndsWith};
+ghost use Rattle.casper_app.specs.Ending.{IsRun, IsLegalRun, RunsReplay, IsLegalReplay, EndsWith};
 
 use crate::Cause;
 use crate::command::pages_asked;
 use crate::ending::write_ending;
 use crate::lines::take_lines;
 use crate::replay::{MOST_ENTRIES, Replay};
+use crate::summary::Summary;
 use casper_io::{Line, Sink, Source};
 use casper_space::Answers;
 use casper_text::Word;
@@ -23,9 +24,9 @@ use std::alloc::Global;
 pub struct Ended {
     /// The status with which the program ends.
     pub status: u8,
-    /// The answers to the lines that were answered, in order.
+    /// The answers to the events that were carried out, in order.
     pub answers: Answers,
-    /// The reads and writes that these answers complete, in order.
+    /// The trail of the core that gave these answers.
     pub trail: Trail,
     /// Why the call ended.
     pub last: Cause,
@@ -39,8 +40,8 @@ pub fn run<S: Source, K: Sink>(alloc: Global, words: &[Word], source: &mut S, si
     // What was read, answered, recorded and written.
     ensures run { IsRun words.now (S.left source.old) (S.left source.new) (K.taken sink.old) (K.taken sink.new)
         result.answers.items result.trail.items result.last }
-    // What was recorded is one legal history of a plain page array.
-    ensures legal { IsLegalRun words.now result.trail.items }
+    // What was recorded is one legal history of a plain page array, and so it is with the calls that are pending behind it.
+    ensures legal { IsLegalRun words.now (S.left source.old) result.answers.items result.trail.items }
     // Status 0 says that the input was read to its end.
     ensures end { result.last ≡ Cause.Done → IfSome (S.left source.new) (λ left. left ≡ []) }
     ensures status { result.status ≡ status_of result.last }
@@ -55,9 +56,10 @@ pub fn run<S: Source, K: Sink>(alloc: Global, words: &[Word], source: &mut S, si
 
 /// Replays the lines of the source over so many zero pages.
 fn replay<S: Source, K: Sink>(alloc: Global, pages: u32, source: &mut S, sink: &mut K) -> Ended
+    requires { pages ≤ 16384 }
     ensures run { RunsReplay pages (S.left source.old) (S.left source.new) (K.taken sink.old) (K.taken sink.new)
         result.answers.items result.trail.items result.last }
-    ensures legal { IsLegal (zero_pages pages) result.trail.items }
+    ensures legal { IsLegalReplay pages (S.left source.old) result.answers.items result.trail.items }
     ensures end { result.last ≡ Cause.Done → IfSome (S.left source.new) (λ left. left ≡ []) }
     ensures status { result.status ≡ status_of result.last }
     ensures read_fault { result.last ≡ Cause.Read → Rose (S.faults source.old) (S.faults source.new) }
@@ -68,13 +70,8 @@ fn replay<S: Source, K: Sink>(alloc: Global, pages: u32, source: &mut S, sink: &
         Err(Memory) => return end_unread(alloc, Cause::Memory, sink),
     };
     let reading = take_lines(alloc, &mut replay, &mut line, source, sink);
-    let last = write_ending(
-        alloc,
-        sink,
-        reading.said,
-        reading.lines,
-        replay.trail.entries(),
-    );
+    let summary = replay.summary(reading.lines);
+    let last = write_ending(alloc, sink, reading.said, &summary);
     let (answers, trail) = replay.into_parts();
     Ended {
         status: last.status(),
@@ -86,9 +83,9 @@ fn replay<S: Source, K: Sink>(alloc: Global, pages: u32, source: &mut S, sink: &
 
 /// The room of one line, and the state before any event.
 fn rooms(alloc: Global, pages: u32) -> Result<(Line, Replay), Memory>
-    ensures start { IfOk result (λ rooms. shown rooms.1 ≡ record { joined = []; items = []; answers = [] }) }
-    ensures right { IfOk result (λ rooms. IsRight rooms.1) }
-    ensures pages { IfOk result (λ rooms. rooms.1.pages ≡ pages) }
+    requires { pages ≤ 16384 }
+    ensures start { IfOk result (λ rooms. IsAt (at_start pages) rooms.1) }
+    ensures calls { IfOk result (λ rooms. rooms.1.core.calls ≡ 0) }
 {
     let line = Line::new(alloc)?;
     let replay = Replay::new(alloc, pages)?;
@@ -97,7 +94,7 @@ fn rooms(alloc: Global, pages: u32) -> Result<(Line, Replay), Memory>
 
 /// Ends a call that has read and answered nothing.
 fn end_unread<K: Sink>(alloc: Global, meant: Cause, sink: &mut K) -> Ended
-    ensures ends { EndsWith meant result.last 0 0 (K.taken sink.old) (K.taken sink.new) }
+    ensures ends { EndsWith meant result.last unread_summary (K.taken sink.old) (K.taken sink.new) }
     ensures answers { result.answers.items ≡ [] }
     ensures trail { result.trail.items ≡ [] }
     ensures status { result.status ≡ status_of result.last }
@@ -105,7 +102,14 @@ fn end_unread<K: Sink>(alloc: Global, meant: Cause, sink: &mut K) -> Ended
     ensures fault { result.last ≡ Cause.Write → (meant ≡ Cause.Write) ⊎ Rose (K.faults sink.old) (K.faults sink.new) }
     ensures done { result.last ≡ Cause.Done → meant ≡ Cause.Done }
 {
-    let last = write_ending(alloc, sink, meant, 0, 0);
+    let summary = Summary {
+        lines: 0,
+        calls: 0,
+        commits: 0,
+        rollbacks: 0,
+        version: 1,
+    };
+    let last = write_ending(alloc, sink, meant, &summary);
     Ended {
         status: last.status(),
         answers: Answers::new(alloc),

@@ -1,38 +1,11 @@
+use crate::replaying::{ROOM, replayed, words_of};
 use casper_app::{Cause, run};
 use casper_io::{MemSink, MemSource};
 use casper_space::Answer;
-use casper_text::Word;
-use casper_words::{Memory, Op, Who};
-use std::alloc::Global;
+use casper_words::{Op, Who};
 use std::test::Fail;
 
-/// Room for whatever a row writes.
-const ROOM: u32 = 4096;
-
 const ROW: &[u8] = b"join 1\nwrite 1 5 0 17\nread 1 5 0\n";
-
-fn words_of(alloc: Global, line: &str) -> Result<Vec<Word>, Memory> {
-    let mut words = Vec::new(alloc);
-    for word in line.split_whitespace() {
-        words.push(Word::new(String::from_str(alloc, word)?))?;
-    }
-    Ok(words)
-}
-
-/// The status and the bytes written.
-fn replayed(
-    alloc: Global,
-    words: &str,
-    input: &[u8],
-    read_fails: &[u64],
-    write_fails: &[u64],
-) -> Result<(u8, Vec<u8>), Memory> {
-    let words = words_of(alloc, words)?;
-    let mut source = MemSource::new(alloc, input, read_fails)?;
-    let mut sink = MemSink::new(alloc, ROOM, write_fails)?;
-    let ended = run(alloc, &words, &mut source, &mut sink);
-    Ok((ended.status, Vec::from_slice(alloc, sink.bytes())?))
-}
 
 #[test]
 fn rows(rt: HostRuntime) -> Result<(), Fail> {
@@ -126,9 +99,9 @@ fn lines(rt: HostRuntime) -> Result<(), Fail> {
         (b"# \x7f", 8),
         (b"join\t1", 8),
         (b" #", 8),
-        (b"serve 1", 10),
+        (b"serve 1", 0),
         (b"reopen", 10),
-        (b"acquire 1 0:r 1:r 2:r 3:r 4:r", 10),
+        (b"acquire 1 0:r 1:r 2:r 3:r 4:r", 8),
         (b"1 new 1 2", 10),
         (b"33 new 1 2", 8),
     ];
@@ -175,14 +148,16 @@ fn each_write_fails(rt: HostRuntime) -> Result<(), Fail> {
     Ok(())
 }
 
+/// A turn records the calls that were pending.
 #[test]
 fn what_stands_at_the_end(rt: HostRuntime) -> Result<(), Fail> {
     let words = words_of(rt.alloc(), "replay mem:8")?;
-    let mut source = MemSource::new(rt.alloc(), ROW, &[])?;
+    let input = b"join 1\nwrite 1 5 0 17\nread 1 5 0\nserve 1\n";
+    let mut source = MemSource::new(rt.alloc(), input, &[])?;
     let mut sink = MemSink::new(rt.alloc(), ROOM, &[])?;
     let ended = run(rt.alloc(), &words, &mut source, &mut sink);
     assert_eq!(rt; ended.last, Cause::Done);
-    let answers = [Answer::Joined, Answer::Ok, Answer::Value(17)];
+    let answers = [Answer::Joined, Answer::Ok, Answer::Value(17), Answer::Ok];
     assert_eq!(rt; ended.answers.as_slice(), answers.as_slice());
     let who = Who::new(1).ok_or("a client")?;
     let calls = ended.trail.entries_of(rt.alloc(), who)?;

@@ -3,3 +3,7 @@
 
 #[cfg(test)]
 mod first_path;
+#[cfg(test)]
+mod recalls;
+#[cfg(test)]
+mod replaying;

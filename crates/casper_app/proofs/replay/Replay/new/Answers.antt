@@ -1,12 +1,11 @@
-use Rattle.std.proofs.Common.{List, sym, ap, ◌∙◌, arith}
-use Rattle.casper_trail.specs.declared.item.Item.{Item}
-use Rattle.casper_app.specs.Session.{value_now}
-use Rattle.casper_app.proofs.ReplayLemmas.{zero_value}
+use Rattle.std.proofs.Common.{refl, ◌∙◌}
+use Rattle.casper_app.proofs.AtLemmas.{stands_at_start}
 use Rattle.casper_app.proofs.replay.Replay.new.Goals as goal
 
-pub returns-clause-right : goal.returns-clause-right
-returns-clause-right c = record {
-  pages = omega (arith, c.in_ok-array.ensures.pages);
-  values = λ page word. c.in_ok-array.ensures.zero page word ∙ sym (ap (λ (items : List Item). value_now c.args.pages items page word) c.new-2.ensures.empty ∙ zero_value c.args.pages page word);
-  limit = c.new-2.ensures.limit;
+pub returns-in-Ok-clause-start : goal.returns-in-Ok-clause-start
+returns-in-Ok-clause-start c = record {
+  stands = stands_at_start c.args.pages c.in_ok-vault.vault c.in-Ok.core c.in-Ok.ensures.told
+      (c.in-Ok.ensures.size ∙ c.in_ok-vault.ensures.size) c.in_ok-vault.ensures.image c.in_ok-vault.ensures.version (c.in-Ok.ensures.stands refl);
+  calls = c.in-Ok.ensures.calls;
+  answers = c.new-in-Ok.ensures.empty;
 }

@@ -1,0 +1,11 @@
+use Rattle.casper_app.proofs.SessionLemmas.{sessions_run_the_machine, lines_name_clients, sessions_are_legal}
+use Rattle.casper_app.proofs.laws.session_laws.Goals as goal
+
+pub returns-clause-machine : goal.returns-clause-machine
+returns-clause-machine c = sessions_run_the_machine
+
+pub returns-clause-clients : goal.returns-clause-clients
+returns-clause-clients c = lines_name_clients
+
+pub returns-clause-legal : goal.returns-clause-legal
+returns-clause-legal c = sessions_are_legal
