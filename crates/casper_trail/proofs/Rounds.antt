@@ -5,7 +5,7 @@ use Rattle.casper_words.specs.Crew.{IsClient, IsCrew, clients, has_member, crew_
 use Rattle.casper_words.proofs.CrewLemmas.{has_member_crew_of, IsCrew_crew_of, same_crew, client_from_member}
 use Rattle.casper_trail.specs.declared.item.Item.{Item}
 use Rattle.casper_trail.specs.Association.{Link, links_of, joins, AreLinked, IsClosedUnderLinks, joins_member, with_linked, after_rounds, alone, association_of}
-use Rattle.casper_trail.specs.AssociationLaws.{AssociationIsACrew, AssociationHoldsItsClient, AssociationOfAMember, AssociationOfLinked, AssociationIsLeast}
+use Rattle.casper_trail.specs.AssociationLaws.{AssociationIsSettled, AssociationGoesBothWays, AssociationGoesOn, AssociationIsACrew, AssociationHoldsItsClient, AssociationOfAMember, AssociationOfLinked, AssociationIsLeast}
 
 -- of two tests of which one implies the other, the weaker keeps the same or more
 filter_grows : {X : Type 0} (f g : X → Bool) → ((x : X) → f x ≡ true → g x ≡ true) → (xs : List X)
@@ -122,6 +122,9 @@ association_settled items client is =
     association_counted items client 32 refl ∙ settled_counted 32 refl (links_of items) client is
     ∙ ap (with_linked (links_of items)) (sym (association_counted items client 32 refl))
 
+pub association_is_settled : AssociationIsSettled
+association_is_settled items client is = sym (association_settled items client is)
+
 -- a link to a member comes from a client
 other_of : (links : List Link) (members : List ℕ) (client : ℕ) → list_any (joins_member members client) links ≡ true
     → (other : ℕ) × (list_any (joins other client) links ≡ true) × (has_member other members ≡ true)
@@ -236,10 +239,8 @@ linked_back items one other linked =
     (or_cases ((link.writer == one) && (link.user == other)) ((link.writer == other) && (link.user == one)) joined))
     (links_of items) linked
 
--- a client is in the association of each member of its own
-member_back : (items : List Item) (client member : ℕ) → has_member member (association_of items client) ≡ true
-    → has_member client (association_of items member) ≡ true
-member_back items client member found =
+pub association_goes_both_ways : AssociationGoesBothWays
+association_goes_both_ways items client member found =
     let is : IsClient client = client_of_association items client member found in
     let is_member : IsClient member = member_is_client items client member found in
     let theirs = association_of items member in
@@ -264,7 +265,7 @@ association_of_a_member items client member found =
     (λ who _. same_bool (has_member who (association_of items member)) (has_member who (association_of items client))
     (λ inside. association_is_least items member (λ one. has_member one (association_of items client)) (association_closed items client is) found who inside)
     (λ inside. association_is_least items client (λ one. has_member one (association_of items member)) (association_closed items member is_member)
-    (member_back items client member found) who inside))
+    (association_goes_both_ways items client member found) who inside))
   where
     same_bool : (a b : Bool) → (a ≡ true → b ≡ true) → (b ≡ true → a ≡ true) → a ≡ b
     same_bool true b to from = sym (to refl)
@@ -275,3 +276,7 @@ pub association_of_linked : AssociationOfLinked
 association_of_linked items one other is_one is_other linked =
     association_of_a_member items other one
     (association_closed items other is_other other one is_other is_one (linked_back items one other linked) (association_holds_its_client items other is_other))
+
+pub association_goes_on : AssociationGoesOn
+association_goes_on items client member third found next =
+    subst (λ members. has_member third members ≡ true) (association_of_a_member items client member found) next

@@ -16,11 +16,6 @@ pub record IsArray (pages : ℕ) (array : List (List ℕ)) : Type 0 where
 abbrev pub zero_pages : ℕ → List (List ℕ)
 zero_pages pages = replicate pages (replicate 512 0)
 
-abbrev pub is_read : Op → Bool
-is_read Read = true
-is_read Write = false
-is_read Touch = false
-
 abbrev pub is_write : Op → Bool
 is_write Read = false
 is_write Write = true

@@ -1,6 +1,6 @@
 ghost use Rattle.casper_trail.specs.ValueLaws.{ValueOfMore, ValueByItsPage, ArrayKeepsShape, ArrayHasValues, ArrayByItsWords, ArrayOfMore};
 ghost use Rattle.casper_trail.specs.PartLaws.{FateOfMore, FateOfMoreEntries, PartOfMore, LiveOfMoreEntries, OpenOfMoreEntries, StableOfMoreEntries, OpenAfterMark, LiveAfterCommit};
-ghost use Rattle.casper_trail.specs.AssociationLaws.{AssociationIsACrew, AssociationHoldsItsClient, AssociationOfAMember, AssociationOfLinked, AssociationIsLeast};
+ghost use Rattle.casper_trail.specs.AssociationLaws.{AssociationIsACrew, AssociationHoldsItsClient, AssociationIsSettled, AssociationGoesBothWays, AssociationGoesOn, AssociationOfAMember, AssociationOfLinked, AssociationIsLeast};
 ghost use Rattle.casper_trail.specs.CauseLaws.{OpenEntriesLink, OneAssociationAPage, CauseSharesFate, StableIsClosed, AssociationIsClosed, LiveIsLegal};
 ghost use Rattle.casper_trail.specs.GrowthLaws.{AssociationGrows, AloneWithoutEntries, AssociationOfOneMore, AssociationOfMoreCalls, AssociationsUnite, OthersStayApart, MembersAfterMark, OthersAfterMark};
 ghost use Rattle.casper_trail.specs.CallLaws.{CallsOfMore, CallsOfTheirClient, CallsOfAnother, CallsAfterTouch, CallsAfterMark, ClientsOfMore, ClientsOfCalls, CountOfMoreEntries, CountAfterMark};
@@ -50,7 +50,10 @@ pub fn turn_laws()
 /// The laws of associations, as contracts of a call that does nothing.
 pub fn association_laws()
     ensures crew { AssociationIsACrew }
+    ensures settled { AssociationIsSettled }
     ensures holds { AssociationHoldsItsClient }
+    ensures both { AssociationGoesBothWays }
+    ensures on { AssociationGoesOn }
     ensures member { AssociationOfAMember }
     ensures linked { AssociationOfLinked }
     ensures least { AssociationIsLeast }

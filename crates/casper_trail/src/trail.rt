@@ -1,4 +1,4 @@
-ghost use Rattle.std.specs.Prelude.{◌≡◌, [], ◌∷◌, ◌++◌, ◌+◌, ◌<◌, ◌≤◌, length, slice_get, Some, IsOk, OnOk, OnErr, IfOk};
+ghost use Rattle.std.specs.Prelude.{◌≡◌, [], ◌∷◌, ◌++◌, ◌+◌, ◌<◌, ◌≤◌, ◌/◌, max, length, slice_get, Some, IsOk, OnOk, OnErr, IfOk};
 ghost use Rattle.casper_trail.specs.TrailView.{entry_count, commit_count, rollback_count};
 ghost use Rattle.casper_trail.specs.Parts.{as_items};
 ghost use Rattle.casper_trail.specs.Calls.{calls_of, entry_by, entries_by, touch_by, call_in as recorded_call};
@@ -7,6 +7,9 @@ use crate::{Entry, Item, Mark};
 use casper_words::{Call, Calls, Memory, Op, Page, Who};
 use std::alloc::Global;
 use std::marker::Model;
+
+/// The least room that is made at a time.
+const LEAST_GROWTH: usize = 64;
 
 /// The one list of items of a session. It grows at its end alone. Contracts see the items, how many entries
 /// it may have, and its room: how many more items it takes before it needs memory.
@@ -52,16 +55,23 @@ impl Trail {
         }
     }
 
-    /// Makes the room at least `items` items. The items and the limit stay.
+    /// Makes the room at least `items` items. Where it is less, so much is made as asked for, or 64, or a quarter of the items that
+    /// there are and no more than the limit leaves, whichever is most. The items and the limit stay.
     pub fn reserve(&mut self, items: u32) -> Result<(), Memory>
         ensures items { self.new.items ≡ self.old.items }
         ensures limit { self.new.limit ≡ self.old.limit }
         ensures ok { OnOk result (items ≤ self.new.room) }
         ensures grows { self.old.room ≤ self.new.room }
+        ensures spare { self.new.room ≤ max (max self.old.room items) (max (length self.old.items / 4) 64) }
         ensures succeeds { items ≤ self.old.room → IsOk result }
         ensures err { OnErr result (self.new ≡ self.old) }
     {
-        self.items.reserve(items as usize)?;
+        let room = self.items.capacity() - self.items.len();
+        if room < items as usize {
+            let left = (self.limit - self.entries) as usize;
+            let share = (self.items.len() / 4).min(left).max(LEAST_GROWTH);
+            self.items.reserve_exact(share.max(items as usize))?;
+        }
         Ok(())
     }
 
