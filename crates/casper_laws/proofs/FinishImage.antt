@@ -36,7 +36,7 @@ stored_without_doubt base after image settles none stable = record {
 }
 
 -- which stabilisation came into doubt
-doubted_lead : (shared : Shared) (lead : ℕ) → is_any_doubtful shared ≡ false → (one : Stabilisation) → Contains (map (doubting lead) shared.stabilisations) one
+pub doubted_lead : (shared : Shared) (lead : ℕ) → is_any_doubtful shared ≡ false → (one : Stabilisation) → Contains (map (doubting lead) shared.stabilisations) one
     → is_doubtful one.phase ≡ true → one.lead ≡ lead
 doubted_lead shared lead none one inside is =
     let was = contains_map (doubting lead) shared.stabilisations one inside in
@@ -81,7 +81,7 @@ finish_image base shared lead how image settles frozen seal none is doubt =
         finished_image base shared one how image settles none well (is ∙ ap (λ number. image_by base shared.trail number how) (sym led))
         (λ ended. doubt ended ∙ ap (image_with base shared.trail) (sym led))
 
-not_some : {X : Type 0} (one : X) → None ≡ Some one → ⊥
+pub not_some : {X : Type 0} (one : X) → None ≡ Some one → ⊥
 not_some one is = true≢false (sym (ap is_some is))
 
 -- the stored image behind a finish

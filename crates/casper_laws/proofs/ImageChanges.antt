@@ -1,4 +1,4 @@
-use Rattle.std.proofs.Common.{◌≡◌, ◌⊎◌, ℕ, List, [], ◌∷◌, ◌++◌, true, false, ◌==◌, Contains, refl, sym, ap, ◌∙◌, subst, ⊎_elim, inl, inr, true≢false, append-nil, append_assoc}
+use Rattle.std.proofs.Common.{◌≡◌, ◌⊎◌, ℕ, List, [], ◌∷◌, ◌++◌, Bool, true, false, ◌==◌, ◌&&◌, not, map, filter, Contains, refl, sym, ap, ◌∙◌, subst, ⊎_elim, inl, inr, true≢false, append-nil, append_assoc}
 use Rattle.std.specs.Prelude.{Option, None, Some}
 use Rattle.std.specs.List.{list_any}
 use Rattle.std.proofs.lemmas.Bool.{cond-false, and_parts, and_from, eq-eqb, false_from_ne_true}
@@ -11,17 +11,20 @@ use Rattle.casper_trail.specs.declared.item.Item.TheVariants as item
 use Rattle.casper_trail.specs.declared.mark.Mark.TheVariants.{Rollback}
 use Rattle.casper_trail.specs.Value.{is_write}
 use Rattle.casper_trail.specs.Fate.{Dropped, Open}
-use Rattle.casper_trail.specs.Parts.{as_items}
+use Rattle.casper_trail.specs.Parts.{as_items, open_entries}
 use Rattle.casper_trail.specs.Calls.{entries_by}
 use Rattle.casper_trail.specs.Association.{association_of}
 use Rattle.casper_trail.specs.Image.{image_of, image_with}
 use Rattle.casper_trail.specs.ImageLaws.{is_write_of}
 use Rattle.casper_trail.specs.TrailView.{is_commit}
-use Rattle.casper_trail.proofs.Parts.{fate_of_entries}
+use Rattle.casper_trail.proofs.Pages.{filter_append}
+use Rattle.casper_trail.proofs.Parts.{fate_of_entries, open_of_more_entries, open_after_mark}
 use Rattle.casper_trail.proofs.Rounds.{association_of_a_member, association_holds_its_client}
 use Rattle.casper_trail.proofs.Images.{image_without_commit, image_without_members}
 use Rattle.casper_model.specs.declared.outcome.Outcome.{Outcome}
 use Rattle.casper_model.specs.declared.outcome.Outcome.TheVariants as outcome
+use Rattle.casper_space.specs.Rising.{rising}
+use Rattle.casper_model.specs.Frozen.{pages_modified_by}
 use Rattle.casper_model.specs.Held.{allows}
 use Rattle.casper_model.specs.Own.{Own}
 use Rattle.casper_model.specs.Acquire.{touches_by}
@@ -34,16 +37,26 @@ use Rattle.casper_model.proofs.Entries.{added_by, writes_added}
 use Rattle.std.proofs.lemmas.List.{map-append}
 use Rattle.casper_laws.specs.FrozenLaws.{AreFrozen, IsSealedBy, OneIsUnfinished, AreWriteOutsInOrder, HasOrderlyStabilisations}
 use Rattle.casper_laws.specs.StoredImage.{image_by, image_due, HasStoredImage}
-use Rattle.casper_laws.proofs.Lists.{contains_map, any_none}
+use Rattle.casper_laws.proofs.Lists.{contains_map, any_none, filter_nothing, filter_filtered}
 use Rattle.casper_laws.proofs.FrozenChanges.{IsDoubtfulBy, IsHeldBy, LeavesWriteOuts}
 
--- what a change leaves of the images: the stable one, and that with each association that is sealed or in doubt
+-- the pages that the association of a lead has modified
+abbrev pub pages_of_lead : List Item → ℕ → List ℕ
+pages_of_lead trail lead = pages_modified_by trail (association_of trail lead)
+
+-- what a change leaves of the images: the stable one, and that with each association that is sealed or in doubt, and the
+-- pages that this has modified
 pub record LeavesImages (base : List (List ℕ)) (shared after : Shared) : Type 0 where
   pub stable : image_of base after.trail ≡ image_of base shared.trail
   pub held : (lead : ℕ) → IsHeldBy shared lead → image_with base after.trail lead ≡ image_with base shared.trail lead
+  pub pages : (lead : ℕ) → IsHeldBy shared lead → pages_of_lead after.trail lead ≡ pages_of_lead shared.trail lead
 
 pub leaves_same : (base : List (List ℕ)) (shared after : Shared) → after.trail ≡ shared.trail → LeavesImages base shared after
-leaves_same base shared after same = record { stable = ap (image_of base) same; held = λ lead is. ap (λ trail. image_with base trail lead) same }
+leaves_same base shared after same = record {
+  stable = ap (image_of base) same;
+  held = λ lead is. ap (λ trail. image_with base trail lead) same;
+  pages = λ lead is. ap (λ trail. pages_of_lead trail lead) same;
+}
 
 -- a stabilisation that is sealed or in doubt is not gathering
 held_phase : (phase : Phase) → (is_sealed phase ≡ true) ⊎ (is_doubtful phase ≡ true) → is_gathering phase ≡ false
@@ -64,6 +77,13 @@ held_silent shared lead who page frozen held member writes =
         true≢false
         (sym (frozen.quiet one inside who page (ap (λ number. has_member who (association_of shared.trail number)) led ∙ member) writes).0 ∙ still)
 
+-- whether an entry is a write by a member, and the pages of such writes
+abbrev is_write_by : List ℕ → Entry → Bool
+is_write_by members entry = is_write entry.op && has_member entry.who members
+
+abbrev pages_written : List Entry → List ℕ
+pages_written writes = rising (map (λ entry. entry.page) writes)
+
 -- entries of a client that writes nothing as a member leave the images
 entries_leave : (base : List (List ℕ)) (shared after : Shared) (more : List Entry) → after.trail ≡ shared.trail ++ as_items more
     → ((lead : ℕ) → IsHeldBy shared lead → association_of after.trail lead ≡ association_of shared.trail lead)
@@ -82,6 +102,16 @@ entries_leave base shared after more grown stay silent = record {
       let both = and_parts (is_write found.0.op) (has_member found.0.who (association_of shared.trail lead))
       (ap (is_write_of (association_of shared.trail lead)) found.2 ∙ writes) in
       silent lead is found.0 found.1 both.0 both.1));
+  pages = λ lead is.
+      ap (pages_modified_by after.trail) (stay lead is)
+      ∙ ap (λ entries. pages_written (filter (is_write_by (association_of shared.trail lead)) entries)) (ap open_entries grown ∙ open_of_more_entries shared.trail more)
+      ∙ ap pages_written
+      (filter_append (is_write_by (association_of shared.trail lead)) (open_entries shared.trail) more
+      ∙ ap (λ back. filter (is_write_by (association_of shared.trail lead)) (open_entries shared.trail) ++ back)
+      (filter_nothing (is_write_by (association_of shared.trail lead)) more
+      (λ entry inside passes.
+      let both = and_parts (is_write entry.op) (has_member entry.who (association_of shared.trail lead)) passes in silent lead is entry inside both.0 both.1))
+      ∙ append-nil (filter (is_write_by (association_of shared.trail lead)) (open_entries shared.trail)));
 }
   where
     no_commit : list_any is_commit (as_items more) ≡ false
@@ -121,22 +151,31 @@ rollback_leaves base shared after lost grown left apart frozen = record {
   held = λ lead is.
       ap (λ trail. image_with base trail lead) grown
       ∙ image_without_members base shared.trail _ lead refl (ap (λ trail. association_of trail lead) (sym grown) ∙ left.stay lead is)
-      (λ who member.
-      cond-false (has_member who (association_of shared.trail lost)) Dropped Open
-      (false_from_ne_true (has_member who (association_of shared.trail lost))
-      (λ found.
-      true≢false
-      (sym (ap (has_member lead)
-      (sym (association_of_a_member shared.trail lost who found) ∙ association_of_a_member shared.trail lead who member)
-      ∙ association_holds_its_client shared.trail lead (led lead is))
-      ∙ apart lead is))))
-      refl;
+      (λ who member. cond-false (has_member who (association_of shared.trail lost)) Dropped Open (outside lead is who member)) refl;
+  pages = λ lead is.
+      ap (pages_modified_by after.trail) (left.stay lead is)
+      ∙ ap (λ entries. pages_written (filter (is_write_by (association_of shared.trail lead)) entries)) (ap open_entries grown ∙ open_after_mark shared.trail _)
+      ∙ ap pages_written
+      (filter_filtered (is_write_by (association_of shared.trail lead)) (λ entry. not (has_member entry.who (association_of shared.trail lost))) (open_entries shared.trail)
+      (λ entry passes.
+      ap not (outside lead is entry.who (and_parts (is_write entry.op) (has_member entry.who (association_of shared.trail lead)) passes).1)));
 }
   where
     led : (lead : ℕ) → IsHeldBy shared lead → IsClient lead
     led lead is =
         ⊎_elim (λ (seal : IsSealedBy shared lead). subst IsClient seal.2 (frozen.leads seal.0 seal.1))
         (λ (doubt : IsDoubtfulBy shared lead). subst IsClient doubt.2 (frozen.leads doubt.0 doubt.1)) is
+
+    outside : (lead : ℕ) → IsHeldBy shared lead → (who : ℕ) → has_member who (association_of shared.trail lead) ≡ true
+        → has_member who (association_of shared.trail lost) ≡ false
+    outside lead is who member =
+        false_from_ne_true (has_member who (association_of shared.trail lost))
+        (λ found.
+        true≢false
+        (sym (ap (has_member lead)
+        (sym (association_of_a_member shared.trail lost who found) ∙ association_of_a_member shared.trail lead who member)
+        ∙ association_holds_its_client shared.trail lead (led lead is))
+        ∙ apart lead is))
 
 -- the stored image behind such a change
 pub image_left : (state : State) (after : Shared) (owns : List Own) → HasOrderlyStabilisations state → LeavesWriteOuts state.shared after

@@ -1,5 +1,5 @@
-use Rattle.std.proofs.Common.{◌≡◌, ◌≢◌, ◌⊎◌, ◌<◌, ℕ, List, [], ◌∷◌, ◌++◌, true, ◌==◌, min, length, refl, sym, ap, subst, inl, inr}
-use Rattle.std.specs.Prelude.{Option, None, Some}
+use Rattle.std.proofs.Common.{◌≡◌, ◌≢◌, ◌⊎◌, ◌<◌, ℕ, List, [], ◌∷◌, ◌++◌, true, false, true≢false, ◌==◌, min, length, refl, sym, ap, subst, inl, inr}
+use Rattle.std.specs.Prelude.{Option, None, Some, is_some}
 use Rattle.std.specs.List.{list_all}
 use Rattle.std.proofs.lemmas.Bool.{cond_both, cases_eq, and_from, and_parts}
 use Rattle.casper_words.specs.Crew.{IsClient}
@@ -13,25 +13,18 @@ use Rattle.casper_model.specs.Room.{most_cap, free_room}
 use Rattle.casper_model.specs.Client.{Client, new_client}
 use Rattle.casper_model.specs.Hits.{with_call}
 use Rattle.casper_model.specs.Shared.{Shared, client_at, fallen_at, place_client}
-use Rattle.casper_model.specs.Join.{join, joined_by}
+use Rattle.casper_model.specs.Join.{joined_by}
 use Rattle.casper_model.specs.Stabilise.{stabilise}
 use Rattle.casper_model.specs.Leave.{serve, depart, vanish}
-use Rattle.casper_model.specs.Loss.{lose}
-use Rattle.casper_model.specs.Finish.{finish, settled}
 use Rattle.casper_model.specs.State.{State, own_at, with_own, with_shared, after_turn, start}
-use Rattle.casper_model.specs.WriteOutStep.{finish_turn, settle_turn}
 use Rattle.casper_model.specs.Run.{state_after}
-use Rattle.casper_model.specs.Rights.{InOrder}
-use Rattle.casper_model.proofs.AcquireRights.{within_places}
-use Rattle.casper_model.proofs.LeaveRights.{vanished_spares}
-use Rattle.casper_model.proofs.MarkSteps.{marks_finish, marks_settled, marks_lose}
+use Rattle.casper_model.specs.Rights.{Agrees, InOrder}
 use Rattle.casper_model.proofs.StateHistory.{in_owns, set_own, other_own}
-use Rattle.casper_model.proofs.StepRights.{step_rights, stands_at}
+use Rattle.casper_model.proofs.StepRights.{step_rights}
 use Rattle.casper_model.proofs.RunRights.{start_in_order, every_run_rights, blank_at}
-use Rattle.casper_laws.specs.OwnLists.{own_list_of, KeepsOwnLists, ArePendingCalls, EachStepKeepsPendingCalls, EachStepKeepsOwnLists, EveryRunKeepsOwnLists}
+use Rattle.casper_laws.specs.OwnLists.{ArePendingCalls, EachStepKeepsPendingCalls, EveryRunHasPendingCalls, EveryAbsentClientHasNothingPending}
 use Rattle.casper_laws.proofs.KeptByTurns.{KeptByTurns, step_keeps, run_keeps}
 use Rattle.casper_laws.proofs.PendingSteps.{Empties, acquire_empties, serve_empties, stabilise_empties, depart_empties}
-use Rattle.casper_laws.proofs.OwnListSteps.{acquire_keeps, serve_keeps, stabilise_keeps, depart_keeps, vanish_keeps, join_keeps, hit_keeps, marks_keep, longer_same, longer_then}
 
 -- reads and writes alone
 abbrev AreCalls : List Call → Type 0
@@ -105,47 +98,17 @@ calls_by_turns = record {
 pub step_calls : EachStepKeepsPendingCalls
 step_calls = step_keeps InOrder InOrder ArePendingCalls step_rights (λ one order. order) calls_by_turns
 
--- a state as a step begins
-record IsFirst (origin state : State) : Type 0 where
-  same : state ≡ origin
-  order : InOrder state
-  calls : ArePendingCalls state
-
-from_first : (origin state after : State) → state ≡ origin → KeepsOwnLists state after → KeepsOwnLists origin after
-from_first origin state after same keeps = subst (λ one. KeepsOwnLists one after) same keeps
-
-lists_by_turns : (origin : State) → KeptByTurns InOrder (IsFirst origin) (KeepsOwnLists origin)
-lists_by_turns origin = record {
-  hit = λ state who act page word value is kind order keeps can number stood stands.
-      longer_then origin state (with_own state (with_call (own_at state who) act page word value)) number (keeps number stood stands)
-      (hit_keeps state who act page word value order is number stands stands);
-  joining = λ state who is first keeps. from_first origin state (after_turn state (join state.shared (own_at state who))) first.same (join_keeps state who first.order is);
-  acquiring = λ state who wants count is live first keeps. from_first origin state (after_turn state (acquire state.shared (own_at state who) wants count)) first.same (acquire_keeps state who wants count first.order is first.calls);
-  serving = λ state who is live first keeps. from_first origin state (after_turn state (serve state.shared (own_at state who))) first.same (serve_keeps state who first.order is first.calls);
-  stabilising = λ state who is live first keeps. from_first origin state (after_turn state (stabilise state.shared (own_at state who))) first.same (stabilise_keeps state who first.order is first.calls);
-  departing = λ state who is live first keeps. from_first origin state (after_turn state (depart state.shared (own_at state who))) first.same (depart_keeps state who first.order is first.calls);
-  vanishing = λ state who is live first keeps.
-      let own = own_at state who in
-      let fallen = fallen_at state.shared own.who in
-      from_first origin state (after_turn state (vanish state.shared own)) first.same
-      (vanish_keeps state who first.order is
-      (subst (λ places. own.who < places) (sym (vanished_spares state.shared own fallen).places) (within_places state.shared own (stands_at state who first.order live))));
-  losing = λ state who is live first keeps. from_first origin state (with_shared state (lose state.shared who).shared) first.same (marks_keep state (lose state.shared who).shared (marks_lose state.shared who));
-  writing = λ state outside lead one first keeps job free. keeps;
-  finishing = λ state lead unfinished first keeps e same.
-      from_first origin state (finish_turn lead unfinished.outcome state).state first.same (marks_keep state (finish state.shared lead unfinished.outcome).shared (marks_finish state.shared lead unfinished.outcome));
-  settling = λ state one first keeps e. from_first origin state (settle_turn state).state first.same (marks_keep state (settled state.shared).shared (marks_settled state.shared));
-}
-
-pub step_lists : EachStepKeepsOwnLists
-step_lists state event outside names order calls =
-    step_keeps InOrder (IsFirst state) (KeepsOwnLists state) step_rights (λ one first. first.order) (lists_by_turns state) state event outside names
-    (record { same = refl; order = order; calls = calls }) (λ who stood stands. longer_same (own_list_of state who) (own_list_of state who) refl)
-
-pub every_run_lists : EveryRunKeepsOwnLists
-every_run_lists vault pages limit capacity happenings named event outside names =
+pub every_run_calls : EveryRunHasPendingCalls
+every_run_calls vault pages limit capacity happenings named =
     let first = start vault pages limit capacity in
-    let begins = start_in_order vault pages limit capacity in
-    step_lists (state_after first happenings) event outside names (every_run_rights vault pages limit capacity happenings named)
-    (run_keeps InOrder ArePendingCalls step_rights step_calls first happenings named begins
-    (λ who. none_are_calls (own_at first who).pending (blank_at vault pages limit capacity who).pending))
+    run_keeps InOrder ArePendingCalls step_rights step_calls first happenings named (start_in_order vault pages limit capacity)
+    (λ who. none_are_calls (own_at first who).pending (blank_at vault pages limit capacity who).pending)
+
+pub every_absent_empty : EveryAbsentClientHasNothingPending
+every_absent_empty vault pages limit capacity happenings named who away =
+    let state = state_after (start vault pages limit capacity) happenings in
+    by_place (own_at state who) (client_at state.shared who) away ((every_run_rights vault pages limit capacity happenings named).rights.agree who)
+  where
+    by_place : (own : Own) (place : Option Client) → is_some place ≡ false → Agrees place own → own.pending ≡ []
+    by_place own None away agrees = agrees.1
+    by_place own (Some client) away agrees = absurd (true≢false away)

@@ -1,7 +1,7 @@
-use Rattle.std.proofs.Common.{◌≡◌, zero, List, [], ◌∷◌, Bool, true, false, map, filter, Contains, refl, sym, ap, ◌∙◌, subst, ⊎_elim, arith, true≢false}
+use Rattle.std.proofs.Common.{◌≡◌, zero, List, [], ◌∷◌, Bool, true, false, cond, map, filter, Contains, refl, sym, ap, ◌∙◌, subst, ⊎_elim, arith, true≢false}
 use Rattle.std.specs.Prelude.{Option, None, Some, is_some}
 use Rattle.std.specs.List.{list_any, find}
-use Rattle.std.proofs.lemmas.Bool.{cond_both, cases_Bool, or_cases, or_left, or_right, false_from_ne_true}
+use Rattle.std.proofs.lemmas.Bool.{cond_both, cond-false, cases_Bool, or_cases, or_left, or_right, false_from_ne_true}
 use Rattle.casper_trail.proofs.LinkLists.{contains_there}
 use Rattle.casper_model.proofs.Entries.{contains_cases}
 
@@ -44,6 +44,28 @@ contains_filtered {X} p (first ∷ xs) x inside passes =
     (λ no.
     ⊎_elim (λ (is : first ≡ x). absurd (true≢false (sym passes ∙ sym (ap p is) ∙ no))) (λ later. contains_filtered p xs x later passes)
     (contains_cases first xs x inside))
+
+-- a filter that nothing passes, and one behind another that keeps all that passes
+pub filter_nothing : {X : Type 0} (test : X → Bool) (xs : List X) → ((x : X) → Contains xs x → test x ≡ true → ⊥) → filter test xs ≡ []
+filter_nothing test [] fails = refl
+filter_nothing test (x ∷ xs) fails =
+    cond-false (test x) (x ∷ filter test xs) (filter test xs) (false_from_ne_true (test x) (fails x (contains_here x xs)))
+    ∙ filter_nothing test xs (λ one inside. fails one (contains_there x xs one inside))
+
+pub filter_filtered : {X : Type 0} (test keep : X → Bool) (xs : List X) → ((x : X) → test x ≡ true → keep x ≡ true) → filter test (filter keep xs) ≡ filter test xs
+filter_filtered test keep [] kept = refl
+filter_filtered test keep (x ∷ xs) kept =
+    cond_both (keep x) (x ∷ filter keep xs) (filter keep xs) (λ list. filter test list ≡ filter test (x ∷ xs))
+    (λ is. ap (λ rest. cond (test x) (x ∷ rest) rest) (filter_filtered test keep xs kept))
+    (λ out.
+    filter_filtered test keep xs kept
+    ∙ sym (cond-false (test x) (x ∷ filter test xs) (filter test xs) (false_from_ne_true (test x) (λ passes. true≢false (sym (kept x passes) ∙ out)))))
+
+-- functions that agree on the elements
+pub map_alike : {X Y : Type 0} (f g : X → Y) (xs : List X) → ((x : X) → Contains xs x → f x ≡ g x) → map f xs ≡ map g xs
+map_alike f g [] alike = refl
+map_alike f g (x ∷ xs) alike =
+    ap (λ first. first ∷ map f xs) (alike x (contains_here x xs)) ∙ ap (λ rest. g x ∷ rest) (map_alike f g xs (λ one inside. alike one (contains_there x xs one inside)))
 
 -- a test of the elements
 pub any_found : {X : Type 0} (p : X → Bool) (xs : List X) → list_any p xs ≡ true → (x : X) × Contains xs x × (p x ≡ true)

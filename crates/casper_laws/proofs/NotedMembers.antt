@@ -47,7 +47,7 @@ NotesNoMore shared after =
     (one : Stabilisation) (lost : ℕ) → Contains after.stabilisations one → one.noted ≡ Some lost
     → (before : Stabilisation) × Contains shared.stabilisations before × (before.lead ≡ one.lead) × (before.noted ≡ Some lost)
 
-notes_same : (shared after : Shared) → after.stabilisations ≡ shared.stabilisations → NotesNoMore shared after
+pub notes_same : (shared after : Shared) → after.stabilisations ≡ shared.stabilisations → NotesNoMore shared after
 notes_same shared after same one lost inside noted = (one, subst (λ list. Contains list one) same inside, refl, noted)
 
 notes_both : (shared middle after : Shared) → NotesNoMore shared middle → NotesNoMore middle after → NotesNoMore shared after
@@ -67,7 +67,7 @@ notes_mapped shared after change changed leads notes one lost inside noted =
     )
 
 -- the stabilisation of a lead changed in what is neither lead nor note
-notes_by_lead : (shared : Shared) (lead : ℕ) (change : Stabilisation → Stabilisation) → ((one : Stabilisation) → (change one).lead ≡ one.lead)
+pub notes_by_lead : (shared : Shared) (lead : ℕ) (change : Stabilisation → Stabilisation) → ((one : Stabilisation) → (change one).lead ≡ one.lead)
     → ((one : Stabilisation) → (change one).noted ≡ one.noted)
     → NotesNoMore shared (record shared { stabilisations = map (λ one. cond (one.lead == lead) (change one) one) shared.stabilisations })
 notes_by_lead shared lead change leads notes =
@@ -109,13 +109,13 @@ notes_answered : (both : Both) (given : List ℕ) (wants missing : List Want) (r
 notes_answered both given wants missing None = notes_same both.shared (answered both given wants missing None).shared refl
 notes_answered both given wants missing (Some reply) = notes_same both.shared (answered both given wants missing (Some reply)).shared refl
 
-notes_acquired : (wants : List Want) (calls : ℕ) (shared : Shared) (own : Own) (fallen : Option Fallen) → NotesNoMore shared (acquired_by shared own wants calls fallen).shared
+pub notes_acquired : (wants : List Want) (calls : ℕ) (shared : Shared) (own : Own) (fallen : Option Fallen) → NotesNoMore shared (acquired_by shared own wants calls fallen).shared
 notes_acquired wants calls shared own (Some fallen) = notes_same shared (acquired_by shared own wants calls (Some fallen)).shared refl
 notes_acquired wants calls shared own None =
     notes_both shared (opened shared own).shared (acquired_by shared own wants calls None).shared (notes_opened shared own)
     (notes_answered (opened shared own) (given_in_opening shared own) wants _ _)
 
-notes_served : (shared : Shared) (own : Own) (fallen : Option Fallen) → NotesNoMore shared (served_by shared own fallen).shared
+pub notes_served : (shared : Shared) (own : Own) (fallen : Option Fallen) → NotesNoMore shared (served_by shared own fallen).shared
 notes_served shared own (Some fallen) = notes_same shared (served_by shared own (Some fallen)).shared refl
 notes_served shared own None = notes_opened shared own
 
@@ -136,16 +136,16 @@ notes_stabilised : (both : Both) (kept : Option Kept) → NotesNoMore both.share
 notes_stabilised both None = notes_stabilised_in both (stabilisation_of both.shared both.own.who)
 notes_stabilised both (Some outcome) = notes_same both.shared both.shared refl
 
-notes_stabilised_by : (shared : Shared) (own : Own) (fallen : Option Fallen) → NotesNoMore shared (stabilised_by shared own fallen).shared
+pub notes_stabilised_by : (shared : Shared) (own : Own) (fallen : Option Fallen) → NotesNoMore shared (stabilised_by shared own fallen).shared
 notes_stabilised_by shared own (Some fallen) = notes_same shared (stabilised_by shared own (Some fallen)).shared refl
 notes_stabilised_by shared own None =
     notes_both shared (opened shared own).shared (stabilised_by shared own None).shared (notes_opened shared own) (notes_stabilised (opened shared own) (kept_at shared own.who))
 
-notes_absent : (both : Both) → NotesNoMore both.shared (absent both).shared
+pub notes_absent : (both : Both) → NotesNoMore both.shared (absent both).shared
 notes_absent both =
     notes_mapped both.shared (absent both).shared (λ one. record one { askers = without both.own.who one.askers }) refl (λ one. refl) (λ one. refl)
 
-notes_departed : (shared : Shared) (own : Own) (fallen : Option Fallen) → NotesNoMore shared (departed_by shared own fallen).shared
+pub notes_departed : (shared : Shared) (own : Own) (fallen : Option Fallen) → NotesNoMore shared (departed_by shared own fallen).shared
 notes_departed shared own (Some fallen) = notes_same shared (departed_by shared own (Some fallen)).shared refl
 notes_departed shared own None = notes_both shared (opened shared own).shared (departed_by shared own None).shared (notes_opened shared own) (notes_absent (opened shared own))
 

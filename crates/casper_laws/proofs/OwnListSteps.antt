@@ -1,12 +1,13 @@
-use Rattle.std.proofs.Common.{◌≡◌, ◌≢◌, ◌⊎◌, ◌<◌, ℕ, List, [], ◌∷◌, ◌++◌, true, false, ◌==◌, ◌&&◌, cond, length, refl, sym, ap, ◌∙◌, subst, inl, inr, true≢false, append_assoc, append-nil, min}
+use Rattle.std.proofs.Common.{◌≡◌, ◌≢◌, ◌⊎◌, ℕ, List, [], ◌∷◌, ◌++◌, Bool, true, false, ◌==◌, ◌&&◌, cond, refl, sym, ap, ◌∙◌, subst, inl, inr, append_assoc, append-nil, min}
 use Rattle.std.proofs.lemmas.List.{map-append}
 use Rattle.std.specs.Prelude.{Option, None, Some, is_some}
 use Rattle.std.specs.List.{list_all, cons_option}
-use Rattle.std.proofs.lemmas.Bool.{cond_both, cases_eq}
+use Rattle.std.proofs.lemmas.Bool.{cond_both, cases_eq, eq-eqb, eqb-true, eqb-false, ne_eqb, and_from}
 use Rattle.casper_words.specs.Crew.{IsClient}
 use Rattle.casper_words.specs.declared.call.Op.{Op}
 use Rattle.casper_words.specs.declared.call.Call.{Call}
 use Rattle.casper_words.specs.declared.page.Want.{Want}
+use Rattle.casper_space.specs.declared.answer.Answer.{Answer}
 use Rattle.casper_trail.specs.declared.item.Item.{Item}
 use Rattle.casper_trail.specs.declared.item.Item.TheVariants as item
 use Rattle.casper_trail.specs.Parts.{as_items}
@@ -14,26 +15,24 @@ use Rattle.casper_trail.specs.Calls.{is_read_or_write, call_of, calls_of, entrie
 use Rattle.casper_trail.proofs.CallLists.{calls_of_more, calls_of_their_client, calls_of_another, calls_after_mark}
 use Rattle.casper_model.specs.declared.reply.JoinRefusal.{JoinRefusal}
 use Rattle.casper_model.specs.Acquire.{acquire, acquired_by, touches_by}
+use Rattle.casper_model.specs.Answers.{of_reply, of_served, of_stabilise, of_depart}
 use Rattle.casper_model.specs.Client.{Client, Fallen, new_client}
 use Rattle.casper_model.specs.Own.{Own, blank}
 use Rattle.casper_model.specs.Both.{Turned}
 use Rattle.casper_model.specs.Room.{most_cap, free_room}
 use Rattle.casper_model.specs.Hits.{with_call}
-use Rattle.casper_model.specs.Shared.{Shared, client_at, fallen_at, of_client, place_client}
+use Rattle.casper_model.specs.Shared.{Shared, client_at, fallen_at, place_client}
 use Rattle.casper_model.specs.Join.{join, joined_by}
 use Rattle.casper_model.specs.Stabilise.{stabilise, stabilised_by}
 use Rattle.casper_model.specs.Leave.{serve, served_by, depart, departed_by, absent, vanish, vanished_by}
 use Rattle.casper_model.specs.State.{State, own_at, with_own, with_shared, after_turn}
-use Rattle.casper_model.specs.Rights.{InOrder}
-use Rattle.casper_model.proofs.Places.{client_placed}
+use Rattle.casper_model.specs.Turn.{Turn}
+use Rattle.casper_model.specs.Rights.{Agrees, InOrder}
 use Rattle.casper_model.proofs.MarkSteps.{marks_vanished}
 use Rattle.casper_model.proofs.Entries.{added_by}
 use Rattle.casper_model.proofs.TurnHistory.{Records, acquire_records, serve_records, stabilise_records, depart_records}
 use Rattle.casper_model.proofs.StateHistory.{Marks, in_owns, set_own, other_own}
-use Rattle.casper_laws.specs.OwnLists.{own_list_of, IsStanding, IsLonger, KeepsOwnLists, ArePendingCalls}
-
-pub longer_same : (before after : List Call) → after ≡ before → IsLonger before after
-longer_same before after same = ([], same ∙ sym (append-nil before))
+use Rattle.casper_laws.specs.OwnLists.{own_list_of, is_rolled_back, is_told, ArePendingCalls}
 
 -- touches are no calls
 no_calls_of_touches : (who client : ℕ) (wants : List Want) → calls_of (as_items (touches_by who wants)) client ≡ []
@@ -42,12 +41,6 @@ no_calls_of_touches who client (want ∷ wants) =
     elim (who == client) as
     (λ same. cons_option (cond (same && false) (Some (call_of (touch_by who want.page))) None) (calls_of (as_items (touches_by who wants)) client) ≡ [])
     [ true ↦ no_calls_of_touches who client wants | false ↦ no_calls_of_touches who client wants ]
-
-longer_both : (first second third : List Call) → IsLonger first second → IsLonger second third → IsLonger first third
-longer_both first second third one two = (
-  one.0 ++ two.0,
-  two.1 ∙ ap (λ calls. calls ++ two.0) one.1 ∙ append_assoc first one.0 two.0,
-)
 
 -- what a turn that records adds to the calls of its client, and of others
 module _ (trail : List Item) (who : ℕ) (pending : List Call) (wants : List Want) where
@@ -73,163 +66,174 @@ calls_by_marks shared after (Marks.stays trail up) who = ap (λ items. calls_of 
 calls_by_marks shared after (Marks.commits lead members exact trail up) who = ap (λ items. calls_of items who) trail ∙ calls_after_mark shared.trail _ who
 calls_by_marks shared after (Marks.rolls_back mark exact trail up) who = ap (λ items. calls_of items who) trail ∙ calls_after_mark shared.trail mark who
 
--- behind a step of one client, where its own list is as it is to be, and nothing of the others is recorded
-acted : (state : State) (who : ℕ) (after : Shared) (own_after : Own) → InOrder state → IsClient who → own_after.who ≡ (own_at state who).who
-    → (IsStanding state who → IsStanding (with_own (with_shared state after) own_after) who
-    → IsLonger (own_list_of state who) (own_list_of (with_own (with_shared state after) own_after) who))
-    → ((number : ℕ) → number ≢ who → calls_of after.trail number ≡ calls_of state.shared.trail number)
-    → KeepsOwnLists state (with_own (with_shared state after) own_after)
-acted state who after own_after order is same mine others number stood stands = by_number (cases_eq number who)
-  where
-    new : State
-    new = with_own (with_shared state after) own_after
-
-    here : own_after.who ≡ who
-    here = same ∙ order.shaped.numbers who
-
-    by_number : (number ≡ who) ⊎ (number ≢ who) → IsLonger (own_list_of state number) (own_list_of new number)
-    by_number (inl is_who) =
-        subst (λ one. IsStanding state one → IsStanding new one → IsLonger (own_list_of state one) (own_list_of new one)) (sym is_who) mine stood stands
-    by_number (inr apart) =
-        longer_same (own_list_of state number) (own_list_of new number)
-        (ap (λ (own : Own). calls_of after.trail number ++ own.pending) (other_own state own_after after (in_owns state who own_after order is same) number (λ e. apart (e ∙ here)))
-        ∙ ap (λ calls. calls ++ (own_at state number).pending) (others number apart))
-
 own_now : (state : State) (who : ℕ) (after : Shared) (own_after : Own) → InOrder state → IsClient who → own_after.who ≡ (own_at state who).who
     → own_at (with_own (with_shared state after) own_after) who ≡ own_after
 own_now state who after own_after order is same =
     set_own state own_after after (in_owns state who own_after order is same) who (sym (same ∙ order.shaped.numbers who))
 
+-- a choice that is known
+pub picked : {X : Type 0} (test : Bool) (first second : X) → test ≡ true → cond test first second ≡ first
+picked test first second is = ap (λ one. cond one first second) is
+
+pub passed : {X : Type 0} (test : Bool) (first second : X) → test ≡ false → cond test first second ≡ second
+passed test first second is = ap (λ one. cond one first second) is
+
+-- the calls of a client where those that are pending are dropped, and where they are not
+abbrev pub left_to : State → ℕ → Bool → List Call
+left_to state who dropped = cond dropped (calls_of state.shared.trail who) (own_list_of state who)
+
+-- behind a step of one client, which drops what it has pending or does not, and where nothing of the others is recorded
+acted : (state : State) (who : ℕ) (after : Shared) (own_after : Own) (dropped : Bool) → InOrder state → IsClient who → own_after.who ≡ (own_at state who).who
+    → calls_of after.trail who ++ own_after.pending ≡ left_to state who dropped
+    → ((number : ℕ) → number ≢ who → calls_of after.trail number ≡ calls_of state.shared.trail number)
+    → (number : ℕ) → own_list_of (with_own (with_shared state after) own_after) number ≡ left_to state number ((who == number) && dropped)
+acted state who after own_after dropped order is same mine others number = by_number (cases_eq number who)
+  where
+    new : State
+    new = with_own (with_shared state after) own_after
+
+    by_number : (number ≡ who) ⊎ (number ≢ who) → own_list_of new number ≡ left_to state number ((who == number) && dropped)
+    by_number (inl is_who) =
+        subst (λ one. own_list_of new one ≡ left_to state one ((who == one) && dropped)) (sym is_who)
+        (ap (λ (one : Own). calls_of after.trail who ++ one.pending) (own_now state who after own_after order is same)
+        ∙ mine ∙ ap (λ first. left_to state who (first && dropped)) (sym (eq-eqb who who refl)))
+    by_number (inr apart) =
+        ap (λ (own : Own). calls_of after.trail number ++ own.pending)
+        (other_own state own_after after (in_owns state who own_after order is same) number (λ e. apart (e ∙ same ∙ order.shaped.numbers who)))
+        ∙ ap (λ calls. calls ++ (own_at state number).pending) (others number apart)
+        ∙ ap (λ first. left_to state number (first && dropped)) (sym (ne_eqb who number (λ e. apart (sym e))))
+
 -- a turn that records leaves its client's own list
-pub recorded_same : (state : State) (who : ℕ) (after : Shared) (own_after : Own) → InOrder state → IsClient who → ArePendingCalls state
-    → Records state.shared (own_at state who) after own_after → own_list_of (with_own (with_shared state after) own_after) who ≡ own_list_of state who
-recorded_same state who after own_after order is calls records =
+pub recorded_same : (state : State) (who : ℕ) (after : Shared) (own_after : Own) → InOrder state → ArePendingCalls state
+    → Records state.shared (own_at state who) after own_after → calls_of after.trail who ++ own_after.pending ≡ own_list_of state who
+recorded_same state who after own_after order calls records =
     let own = own_at state who in
-    ap (λ (one : Own). calls_of after.trail who ++ one.pending) (own_now state who after own_after order is records.who)
-    ∙ ap (λ pending. calls_of after.trail who ++ pending) records.pending
+    ap (λ pending. calls_of after.trail who ++ pending) records.pending
     ∙ append-nil (calls_of after.trail who)
     ∙ ap (λ items. calls_of items who) records.trail
     ∙ subst (λ n. calls_of (state.shared.trail ++ as_items (added_by own.who own.pending records.wants)) n ≡ calls_of state.shared.trail n ++ own.pending)
     (order.shaped.numbers who) (recorded_own state.shared.trail own.who own.pending records.wants (calls who))
 
-recorded_keeps : (state : State) (who : ℕ) (after : Shared) (own_after : Own) → InOrder state → IsClient who → ArePendingCalls state
-    → Records state.shared (own_at state who) after own_after → KeepsOwnLists state (with_own (with_shared state after) own_after)
-recorded_keeps state who after own_after order is calls records =
+-- a turn of a client leaves all own lists, but drops what its own has pending where it is told of its fall
+abbrev pub Keeps : State → ℕ → Turn → Type 0
+Keeps state who turn = (number : ℕ) → own_list_of turn.state number ≡ left_to state number ((who == number) && is_told state who turn.answer)
+
+-- a turn whose client had fallen, or records
+turn_keeps : {R : Type 0} (state : State) (who : ℕ) (turn : Option Fallen → Turned R) (answer : R → Answer) → InOrder state → IsClient who → ArePendingCalls state
+    → ((fallen : Fallen) → is_rolled_back (answer (turn (Some fallen)).reply) ≡ true) → ((fallen : Fallen) → (turn (Some fallen)).own.who ≡ (own_at state who).who)
+    → ((fallen : Fallen) → (turn (Some fallen)).own.pending ≡ []) → ((fallen : Fallen) → (turn (Some fallen)).shared.trail ≡ state.shared.trail)
+    → Records state.shared (own_at state who) (turn None).shared (turn None).own
+    → (fallen : Option Fallen) → fallen_at state.shared (own_at state who).who ≡ fallen
+    → Keeps state who (record { answer = answer (turn fallen).reply; state = after_turn state (turn fallen) })
+turn_keeps state who turn answer order is calls tells same emptied trail records (Some fallen) e =
+    let after = turn (Some fallen) in
+    let fell : is_some (fallen_at state.shared who) ≡ true = ap (λ number. is_some (fallen_at state.shared number)) (sym (order.shaped.numbers who)) ∙ ap is_some e in
+    acted state who after.shared after.own (is_told state who (answer after.reply)) order is (same fallen)
+    (ap (λ pending. calls_of after.shared.trail who ++ pending) (emptied fallen) ∙ append-nil (calls_of after.shared.trail who)
+    ∙ ap (λ items. calls_of items who) (trail fallen)
+    ∙ sym (picked (is_told state who (answer after.reply)) _ _ (and_from (is_some (fallen_at state.shared who)) (is_rolled_back (answer after.reply)) fell (tells fallen))))
+    (λ number apart. ap (λ items. calls_of items number) (trail fallen))
+turn_keeps state who turn answer order is calls tells same emptied trail records None e =
     let own = own_at state who in
-    acted state who after own_after order is records.who
-    (λ stood stands.
-    longer_same (own_list_of state who) (own_list_of (with_own (with_shared state after) own_after) who) (recorded_same state who after own_after order is calls records))
+    let after = turn None in
+    let up : is_some (fallen_at state.shared who) ≡ false = ap (λ number. is_some (fallen_at state.shared number)) (sym (order.shaped.numbers who)) ∙ ap is_some e in
+    acted state who after.shared after.own (is_told state who (answer after.reply)) order is records.who
+    (recorded_same state who after.shared after.own order calls records
+    ∙ sym (passed (is_told state who (answer after.reply)) _ _ (ap (λ fell. fell && is_rolled_back (answer after.reply)) up)))
     (λ number apart.
     ap (λ items. calls_of items number) records.trail
     ∙ recorded_other state.shared.trail own.who own.pending records.wants number (λ e. apart (sym e ∙ order.shaped.numbers who)))
 
--- who stands has not fallen
-stands_up : (state : State) (who : ℕ) (fallen : Fallen) → IsStanding state who → fallen_at state.shared who ≡ Some fallen → ⊥
-stands_up state who fallen stands fell =
-    true≢false (sym (ap is_some fell) ∙ ap is_some (ap (of_client None (λ client. client.fallen)) stands.1 ∙ stands.2))
+module _ (state : State) (who : ℕ) (order : InOrder state) (is : IsClient who) (pending : ArePendingCalls state) where
+  pub acquire_keeps : (wants : List Want) (calls : ℕ) → let turn = acquire state.shared (own_at state who) wants calls in
+      Keeps state who (record { answer = of_reply turn.reply; state = after_turn state turn })
+  acquire_keeps wants calls =
+      turn_keeps state who (acquired_by state.shared (own_at state who) wants calls) of_reply order is pending (λ fallen. refl) (λ fallen. refl) (λ fallen. refl) (λ fallen. refl)
+      (acquire_records wants calls state.shared (own_at state who)) (fallen_at state.shared (own_at state who).who) refl
 
-told_keeps : (state : State) (who : ℕ) (after : Shared) (own_after : Own) (fallen : Fallen) → InOrder state → IsClient who → own_after.who ≡ (own_at state who).who
-    → after.trail ≡ state.shared.trail → fallen_at state.shared (own_at state who).who ≡ Some fallen → KeepsOwnLists state (with_own (with_shared state after) own_after)
-told_keeps state who after own_after fallen order is same trail fell =
-    acted state who after own_after order is same
-    (λ stood stands. absurd (stands_up state who fallen stood (ap (fallen_at state.shared) (sym (order.shaped.numbers who)) ∙ fell)))
-    (λ number apart. ap (λ items. calls_of items number) trail)
+  pub serve_keeps : let turn = serve state.shared (own_at state who) in Keeps state who (record { answer = of_served turn.reply; state = after_turn state turn })
+  serve_keeps =
+      turn_keeps state who (served_by state.shared (own_at state who)) of_served order is pending (λ fallen. refl) (λ fallen. refl) (λ fallen. refl) (λ fallen. refl)
+      (serve_records state.shared (own_at state who)) (fallen_at state.shared (own_at state who).who) refl
 
--- a turn whose client had fallen, or records
-turn_keeps : {R : Type 0} (state : State) (who : ℕ) (turn : Option Fallen → Turned R) → InOrder state → IsClient who → ArePendingCalls state
-    → ((fallen : Fallen) → (turn (Some fallen)).own.who ≡ (own_at state who).who) → ((fallen : Fallen) → (turn (Some fallen)).shared.trail ≡ state.shared.trail)
-    → Records state.shared (own_at state who) (turn None).shared (turn None).own
-    → (fallen : Option Fallen) → fallen_at state.shared (own_at state who).who ≡ fallen → KeepsOwnLists state (after_turn state (turn fallen))
-turn_keeps state who turn order is calls same trail records (Some fallen) e =
-    told_keeps state who (turn (Some fallen)).shared (turn (Some fallen)).own fallen order is (same fallen) (trail fallen) e
-turn_keeps state who turn order is calls same trail records None e = recorded_keeps state who (turn None).shared (turn None).own order is calls records
+  pub stabilise_keeps : let turn = stabilise state.shared (own_at state who) in Keeps state who (record { answer = of_stabilise turn.reply; state = after_turn state turn })
+  stabilise_keeps =
+      turn_keeps state who (stabilised_by state.shared (own_at state who)) of_stabilise order is pending (λ fallen. refl) (λ fallen. refl) (λ fallen. refl) (λ fallen. refl)
+      (stabilise_records state.shared (own_at state who)) (fallen_at state.shared (own_at state who).who) refl
 
-pub acquire_keeps : (state : State) (who : ℕ) (wants : List Want) (calls : ℕ) → InOrder state → IsClient who → ArePendingCalls state
-    → KeepsOwnLists state (after_turn state (acquire state.shared (own_at state who) wants calls))
-acquire_keeps state who wants calls order is pending =
-    let own = own_at state who in
-    turn_keeps state who (acquired_by state.shared own wants calls) order is pending (λ fallen. refl) (λ fallen. refl) (acquire_records wants calls state.shared own)
-    (fallen_at state.shared own.who) refl
+  pub depart_keeps : let turn = depart state.shared (own_at state who) in Keeps state who (record { answer = of_depart turn.reply; state = after_turn state turn })
+  depart_keeps =
+      turn_keeps state who (departed_by state.shared (own_at state who)) of_depart order is pending (λ fallen. refl) (λ fallen. refl) (λ fallen. refl) (λ fallen. refl)
+      (depart_records state.shared (own_at state who)) (fallen_at state.shared (own_at state who).who) refl
 
-pub serve_keeps : (state : State) (who : ℕ) → InOrder state → IsClient who → ArePendingCalls state
-    → KeepsOwnLists state (after_turn state (serve state.shared (own_at state who)))
-serve_keeps state who order is pending =
-    let own = own_at state who in
-    turn_keeps state who (served_by state.shared own) order is pending (λ fallen. refl) (λ fallen. refl) (serve_records state.shared own) (fallen_at state.shared own.who) refl
-
-pub stabilise_keeps : (state : State) (who : ℕ) → InOrder state → IsClient who → ArePendingCalls state
-    → KeepsOwnLists state (after_turn state (stabilise state.shared (own_at state who)))
-stabilise_keeps state who order is pending =
-    let own = own_at state who in
-    turn_keeps state who (stabilised_by state.shared own) order is pending (λ fallen. refl) (λ fallen. refl) (stabilise_records state.shared own)
-    (fallen_at state.shared own.who) refl
-
-pub depart_keeps : (state : State) (who : ℕ) → InOrder state → IsClient who → ArePendingCalls state
-    → KeepsOwnLists state (after_turn state (depart state.shared (own_at state who)))
-depart_keeps state who order is pending =
-    let own = own_at state who in
-    turn_keeps state who (departed_by state.shared own) order is pending (λ fallen. refl) (λ fallen. refl) (depart_records state.shared own)
-    (fallen_at state.shared own.who) refl
-
--- a client that vanishes is absent
-pub vanish_keeps : (state : State) (who : ℕ) → InOrder state → IsClient who → (own_at state who).who < length (vanished_by state.shared (own_at state who) (fallen_at state.shared (own_at state who).who)).shared.clients
-    → KeepsOwnLists state (after_turn state (vanish state.shared (own_at state who)))
-vanish_keeps state who order is below =
+-- a client that vanishes leaves what is recorded
+pub vanish_keeps : (state : State) (who : ℕ) → InOrder state → IsClient who → (number : ℕ)
+    → own_list_of (after_turn state (vanish state.shared (own_at state who))) number ≡ left_to state number ((who == number) && true)
+vanish_keeps state who order is =
     let own = own_at state who in
     let lost : Shared = (vanished_by state.shared own (fallen_at state.shared own.who)).shared in
-    acted state who (absent (record { shared = lost; own = own })).shared (blank own.who own.capacity) order is refl
-    (λ stood stands.
-    absurd (true≢false (sym (ap is_some stands.1)
-    ∙ ap (λ number. is_some (client_at (absent (record { shared = lost; own = own })).shared number)) (sym (order.shaped.numbers who))
-    ∙ ap is_some (client_placed own.who None lost below))))
-    (λ number apart. calls_by_marks state.shared lost (marks_vanished state.shared own (fallen_at state.shared own.who)) number)
+    let same = calls_by_marks state.shared lost (marks_vanished state.shared own (fallen_at state.shared own.who)) in
+    acted state who (absent (record { shared = lost; own = own })).shared (blank own.who own.capacity) true order is refl
+    (append-nil (calls_of lost.trail who) ∙ same who) (λ number apart. same number)
 
--- a client that joins was absent
-pub join_keeps : (state : State) (who : ℕ) → InOrder state → IsClient who → KeepsOwnLists state (after_turn state (join state.shared (own_at state who)))
+-- no own list changes
+abbrev pub SameLists : State → State → Type 0
+SameLists state after = (number : ℕ) → own_list_of after number ≡ own_list_of state number
+
+pub both_never : (first second : Bool) → second ≡ false → (first && second) ≡ false
+both_never true second never = never
+both_never false second never = refl
+
+-- a client that joins was absent, with nothing pending
+pub join_keeps : (state : State) (who : ℕ) → InOrder state → IsClient who → SameLists state (after_turn state (join state.shared (own_at state who)))
 join_keeps state who order is = by_place (client_at state.shared own.who) refl
   where
     own : Own
     own = own_at state who
 
-    stays : KeepsOwnLists state (with_own (with_shared state state.shared) own)
-    stays =
-        acted state who state.shared own order is refl
-        (λ stood stands.
-        longer_same (own_list_of state who) (own_list_of (with_own (with_shared state state.shared) own) who)
-        (ap (λ (one : Own). calls_of state.shared.trail who ++ one.pending) (own_now state who state.shared own order is refl)))
-        (λ number apart. refl)
+    placed : (after : Shared) (own_after : Own) → after.trail ≡ state.shared.trail → own_after.who ≡ own.who → own_after.pending ≡ own.pending
+        → SameLists state (with_own (with_shared state after) own_after)
+    placed after own_after trail same pending number =
+        acted state who after own_after false order is same
+        (ap (λ items. calls_of items who ++ own_after.pending) trail ∙ ap (λ calls. calls_of state.shared.trail who ++ calls) pending)
+        (λ other apart. ap (λ items. calls_of items other) trail) number
+        ∙ passed ((who == number) && false) _ _ (both_never (who == number) false refl)
 
-    by_place : (place : Option Client) → client_at state.shared own.who ≡ place → KeepsOwnLists state (after_turn state (joined_by state.shared own place))
-    by_place (Some client) e = stays
+    by_place : (place : Option Client) → client_at state.shared own.who ≡ place → SameLists state (after_turn state (joined_by state.shared own place))
+    by_place (Some client) e = placed state.shared own refl refl refl
     by_place None e =
-        cond_both (free_room state.shared == 0) _ _ (λ (turn : Turned (Option JoinRefusal)). KeepsOwnLists state (after_turn state turn)) (λ full. stays)
+        let nothing = subst (λ place. Agrees place own) (ap (client_at state.shared) (sym (order.shaped.numbers who)) ∙ e) (order.rights.agree who) in
+        cond_both (free_room state.shared == 0) _ _ (λ (turn : Turned (Option JoinRefusal)). SameLists state (after_turn state turn))
+        (λ full. placed state.shared own refl refl refl)
         (λ free.
-        acted state who (place_client own.who (Some (new_client (min most_cap (free_room state.shared)))) state.shared) (record (blank own.who own.capacity) { cap = min most_cap (free_room state.shared) }) order is refl
-        (λ stood stands.
-        absurd (true≢false (sym (ap is_some stood.1) ∙ ap (λ number. is_some (client_at state.shared number)) (sym (order.shaped.numbers who)) ∙ ap is_some e)))
-        (λ number apart. refl))
+        placed (place_client own.who (Some (new_client (min most_cap (free_room state.shared)))) state.shared)
+        (record (blank own.who own.capacity) { cap = min most_cap (free_room state.shared) }) refl refl (sym nothing.1))
 
--- a hit adds its call
-pub hit_adds : (state : State) (who : ℕ) (act : Op) (page word value : ℕ) → InOrder state → IsClient who
-    → own_list_of (with_own state (with_call (own_at state who) act page word value)) who
-    ≡ own_list_of state who ++ record { op = act; page = page; word = word; value = value } ∷ []
-hit_adds state who act page word value order is =
-    let own = own_at state who in
-    let call : Call = record { op = act; page = page; word = word; value = value } in
-    ap (λ (one : Own). calls_of state.shared.trail who ++ one.pending) (own_now state who state.shared (with_call own act page word value) order is refl)
-    ∙ sym (append_assoc (calls_of state.shared.trail who) own.pending (call ∷ []))
+-- a hit adds its call to its client's list, and nothing to another's
+pub hit_adds : (state : State) (who : ℕ) (act : Op) (page word value : ℕ) → InOrder state → IsClient who → (number : ℕ)
+    → own_list_of (with_own state (with_call (own_at state who) act page word value)) number
+    ≡ own_list_of state number ++ cond (who == number) (record { op = act; page = page; word = word; value = value } ∷ []) []
+hit_adds state who act page word value order is number = by_same (who == number) refl
+  where
+    own : Own
+    own = own_at state who
 
-pub hit_keeps : (state : State) (who : ℕ) (act : Op) (page word value : ℕ) → InOrder state → IsClient who
-    → KeepsOwnLists state (with_own state (with_call (own_at state who) act page word value))
-hit_keeps state who act page word value order is =
-    acted state who state.shared (with_call (own_at state who) act page word value) order is refl
-    (λ stood stands. (record { op = act; page = page; word = word; value = value } ∷ [], hit_adds state who act page word value order is)) (λ number apart. refl)
+    call : Call
+    call = record { op = act; page = page; word = word; value = value }
+
+    after : Own
+    after = with_call own act page word value
+
+    by_same : (same : Bool) → (who == number) ≡ same → own_list_of (with_own state after) number ≡ own_list_of state number ++ cond same (call ∷ []) []
+    by_same true e =
+        subst (λ one. own_list_of (with_own state after) one ≡ own_list_of state one ++ call ∷ []) (eqb-true who number e)
+        (ap (λ (one : Own). calls_of state.shared.trail who ++ one.pending) (own_now state who state.shared after order is refl)
+        ∙ sym (append_assoc (calls_of state.shared.trail who) own.pending (call ∷ [])))
+    by_same false e =
+        ap (λ (one : Own). calls_of state.shared.trail number ++ one.pending)
+        (other_own state after state.shared (in_owns state who after order is refl) number (λ same. eqb-false who number e (sym (same ∙ order.shaped.numbers who))))
+        ∙ sym (append-nil (own_list_of state number))
 
 -- what is no turn of a client
-pub marks_keep : (state : State) (after : Shared) → Marks state.shared after → KeepsOwnLists state (with_shared state after)
-marks_keep state after marks who stood stands =
-    longer_same (own_list_of state who) (own_list_of (with_shared state after) who) (ap (λ calls. calls ++ (own_at state who).pending) (calls_by_marks state.shared after marks who))
-
-pub longer_then : (state middle after : State) (who : ℕ) → IsLonger (own_list_of state who) (own_list_of middle who)
-    → IsLonger (own_list_of middle who) (own_list_of after who) → IsLonger (own_list_of state who) (own_list_of after who)
-longer_then state middle after who = longer_both (own_list_of state who) (own_list_of middle who) (own_list_of after who)
+pub marks_keep : (state : State) (after : Shared) → Marks state.shared after → SameLists state (with_shared state after)
+marks_keep state after marks number = ap (λ calls. calls ++ (own_at state number).pending) (calls_by_marks state.shared after marks number)

@@ -124,7 +124,7 @@ pub step_short : EachStepKeepsPendingListsShort
 step_short = step_keeps InOrder InOrder ArePendingListsShort step_rights (λ one order. order) short_by_turns
 
 -- as a session begins nobody is live
-nobody_at_start : (pages limit who : ℕ) → client_at (new_shared pages limit) who ≡ None
+pub nobody_at_start : (pages limit who : ℕ) → client_at (new_shared pages limit) who ≡ None
 nobody_at_start pages limit who =
     ⊎_elim (λ (below : who < 33). get_or-replicate 33 who None None below) (λ past. client_beyond (new_shared pages limit) who past) (cases_lt who 33)
 

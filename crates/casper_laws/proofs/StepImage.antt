@@ -3,6 +3,7 @@ use Rattle.std.specs.Prelude.{Option, None, Some, is_some, ⊤}
 use Rattle.std.proofs.lemmas.Bool.{cond_both, not-true}
 use Rattle.casper_words.specs.Crew.{IsClient, has_member}
 use Rattle.casper_words.specs.declared.page.Right.TheVariants as may
+use Rattle.casper_words.specs.declared.page.Want.{Want}
 use Rattle.casper_trail.specs.Value.{IsArray}
 use Rattle.casper_trail.specs.Association.{association_of}
 use Rattle.casper_trail.specs.Image.{image_of, image_with}
@@ -14,14 +15,14 @@ use Rattle.casper_model.specs.Both.{Changed, Turned}
 use Rattle.casper_model.specs.Stabilisation.{Stabilisation, is_gathering}
 use Rattle.casper_model.specs.Shared.{Shared, fallen_at, is_live}
 use Rattle.casper_model.specs.Frozen.{stabilisation_of}
-use Rattle.casper_model.specs.Acquire.{acquired_by}
-use Rattle.casper_model.specs.Stabilise.{stabilised_by}
+use Rattle.casper_model.specs.Acquire.{acquire, acquired_by}
+use Rattle.casper_model.specs.Stabilise.{stabilise, stabilised_by}
 use Rattle.casper_model.specs.Hits.{with_call}
 use Rattle.casper_model.specs.Join.{join}
-use Rattle.casper_model.specs.Leave.{served_by, departed_by, vanish, vanished_by}
+use Rattle.casper_model.specs.Leave.{serve, served_by, depart, departed_by, vanish, vanished_by}
 use Rattle.casper_model.specs.Loss.{lose, lose_by, lost_in, rolled_back}
 use Rattle.casper_model.specs.Outside.{NothingFailed}
-use Rattle.casper_model.specs.State.{State, Unfinished, own_at, with_own, after_turn, start}
+use Rattle.casper_model.specs.State.{State, Unfinished, own_at, with_own, start}
 use Rattle.casper_model.specs.Run.{state_after}
 use Rattle.casper_model.specs.Growth.{AddsOwn}
 use Rattle.casper_model.specs.Rights.{TurnStands}
@@ -43,32 +44,9 @@ use Rattle.casper_laws.proofs.ImageChanges.{LeavesImages, leaves_same, own_leave
 use Rattle.casper_laws.proofs.FinishImage.{finish_stored, settle_stored, write_out_stored}
 
 -- what is known of a state beside its stored image
-record IsOrderly (state : State) : Type 0 where
-  history : HasHistory state
-  orderly : HasOrderlyStabilisations state
-
--- behind a turn of a client that records its calls
-turn_stored : {R : Type 0} (state : State) (who : ℕ) (turn : Option Fallen → Turned R) → is_live state.shared who ≡ true → IsOrderly state → HasStoredImage state
-    → StaysFrozen state.shared (turn (fallen_at state.shared (own_at state who).who)).shared
-    → ((fallen : Fallen) → (turn (Some fallen)).shared.trail ≡ state.shared.trail)
-    → AddsOwn (own_at state who).who (own_at state who).pending state.shared.trail (turn (fallen_at state.shared (own_at state who).who)).shared.trail
-    → HasStoredImage (after_turn state (turn (fallen_at state.shared (own_at state who).who)))
-turn_stored state who turn live known stored stays told adds =
-    image_left state (turn (fallen_at state.shared own.who)).shared _ known.orderly stays.left (by_fallen (fallen_at state.shared own.who) refl stays adds) stored
-  where
-    own : Own
-    own = own_at state who
-
-    stands : TurnStands state.shared own
-    stands = stands_at state who known.history.order live
-
-    by_fallen : (fallen : Option Fallen) → fallen_at state.shared own.who ≡ fallen → StaysFrozen state.shared (turn fallen).shared
-        → AddsOwn own.who own.pending state.shared.trail (turn fallen).shared.trail → LeavesImages state.base state.shared (turn fallen).shared
-    by_fallen (Some fallen) e stay add = leaves_same state.base state.shared _ (told fallen)
-    by_fallen None e stay add =
-        let is = up_as_it_stands state.shared own stands e in
-        own_leaves state.base state.shared _ own known.orderly.frozen (good_if_up state who known.history is)
-        (λ page writes. rights_are_held state.shared own stands is page may.Write ∙ writes) stay.left add
+pub record IsOrderly (state : State) : Type 0 where
+  pub history : HasHistory state
+  pub orderly : HasOrderlyStabilisations state
 
 -- behind a rollback
 rolled_back_images : (base : List (List ℕ)) (shared : Shared) (lost : ℕ) → AreFrozen shared → LeavesWriteOuts shared (rolled_back shared lost)
@@ -95,10 +73,10 @@ lost_images base shared who unrecorded frozen (Some one) stays' =
     (λ held stays. leaves_same base shared _ refl)
     stays'
 
--- a loss leaves the write-outs and the images
-record LeavesBoth (base : List (List ℕ)) (shared after : Shared) : Type 0 where
-  left : LeavesWriteOuts shared after
-  images : LeavesImages base shared after
+-- what a change leaves of the write-outs and the images
+pub record LeavesBoth (base : List (List ℕ)) (shared after : Shared) : Type 0 where
+  pub left : LeavesWriteOuts shared after
+  pub images : LeavesImages base shared after
 
 loss_leaves : (base : List (List ℕ)) (shared : Shared) (who unrecorded : ℕ) → IsClient who → AreFrozen shared
     → LeavesBoth base shared (lost_in shared who unrecorded (stabilisation_of shared who)).shared
@@ -111,58 +89,104 @@ lose_leaves_both : (base : List (List ℕ)) (shared : Shared) (who : ℕ) → Is
 lose_leaves_both base shared who is frozen (Some fallen) = record { left = (stays_itself shared frozen).left; images = leaves_same base shared shared refl }
 lose_leaves_both base shared who is frozen None = loss_leaves base shared who 0 is frozen
 
-vanished_images : (base : List (List ℕ)) (shared : Shared) (own : Own) → IsClient own.who → AreFrozen shared → (fallen : Option Fallen)
+vanished_leaves : (base : List (List ℕ)) (shared : Shared) (own : Own) → IsClient own.who → AreFrozen shared → (fallen : Option Fallen)
     → LeavesImages base shared (vanished_by shared own fallen).shared
-vanished_images base shared own is frozen (Some fallen) = leaves_same base shared shared refl
-vanished_images base shared own is frozen None = (loss_leaves base shared own.who _ is frozen).images
+vanished_leaves base shared own is frozen (Some fallen) = leaves_same base shared shared refl
+vanished_leaves base shared own is frozen None = (loss_leaves base shared own.who _ is frozen).images
+
+-- behind a turn of a client that records its calls
+turn_leaves : {R : Type 0} (state : State) (who : ℕ) (turn : Option Fallen → Turned R) → is_live state.shared who ≡ true → IsOrderly state
+    → StaysFrozen state.shared (turn (fallen_at state.shared (own_at state who).who)).shared
+    → ((fallen : Fallen) → (turn (Some fallen)).shared.trail ≡ state.shared.trail)
+    → AddsOwn (own_at state who).who (own_at state who).pending state.shared.trail (turn (fallen_at state.shared (own_at state who).who)).shared.trail
+    → LeavesBoth state.base state.shared (turn (fallen_at state.shared (own_at state who).who)).shared
+turn_leaves state who turn live known stays told adds = record { left = stays.left; images = by_fallen (fallen_at state.shared own.who) refl stays adds }
+  where
+    own : Own
+    own = own_at state who
+
+    stands : TurnStands state.shared own
+    stands = stands_at state who known.history.order live
+
+    by_fallen : (fallen : Option Fallen) → fallen_at state.shared own.who ≡ fallen → StaysFrozen state.shared (turn fallen).shared
+        → AddsOwn own.who own.pending state.shared.trail (turn fallen).shared.trail → LeavesImages state.base state.shared (turn fallen).shared
+    by_fallen (Some fallen) e stay add = leaves_same state.base state.shared _ (told fallen)
+    by_fallen None e stay add =
+        let is = up_as_it_stands state.shared own stands e in
+        own_leaves state.base state.shared _ own known.orderly.frozen (good_if_up state who known.history is)
+        (λ page writes. rights_are_held state.shared own stands is page may.Write ∙ writes) stay.left add
+
+-- what each kind of turn leaves
+module _ (state : State) (who : ℕ) (is : IsClient who) (known : IsOrderly state) where
+  abbrev own : Own
+  own = own_at state who
+
+  pub join_leaves : LeavesBoth state.base state.shared (join state.shared (own_at state who)).shared
+  join_leaves = record {
+    left = (join_stays state.shared own (below_places state who known.history.order is) known.orderly.frozen).left;
+    images = leaves_same state.base state.shared _ (step_adds state (event.Join who) NothingFailed);
+  }
+
+  pub lose_leaves : LeavesBoth state.base state.shared (lose state.shared who).shared
+  lose_leaves = lose_leaves_both state.base state.shared who is known.orderly.frozen (fallen_at state.shared who)
+
+  module _ (live : is_live state.shared who ≡ true) where
+    pub acquire_leaves : (wants : List Want) (calls : ℕ) → LeavesBoth state.base state.shared (acquire state.shared (own_at state who) wants calls).shared
+    acquire_leaves wants calls =
+        turn_leaves state who (acquired_by state.shared own wants calls) live known
+        (acquire_stays state.base wants calls state.shared own (named state who known.history.order is) (stands_at state who known.history.order live)
+        (good_if_up state who known.history) known.history.exact.clients known.orderly.frozen)
+        (λ fallen. refl) (acquire_adds wants calls state.shared own)
+
+    pub serve_leaves : LeavesBoth state.base state.shared (serve state.shared (own_at state who)).shared
+    serve_leaves =
+        turn_leaves state who (served_by state.shared own) live known
+        (serve_stays state.base state.shared own (named state who known.history.order is) (stands_at state who known.history.order live) (good_if_up state who known.history)
+        known.orderly.frozen)
+        (λ fallen. refl) (serve_adds state.shared own)
+
+    pub stabilise_leaves : LeavesBoth state.base state.shared (stabilise state.shared (own_at state who)).shared
+    stabilise_leaves =
+        turn_leaves state who (stabilised_by state.shared own) live known
+        (stabilise_stays state.base state.shared own (named state who known.history.order is) (stands_at state who known.history.order live)
+        (good_if_up state who known.history) known.orderly.frozen)
+        (λ fallen. refl) (stabilise_adds state.shared own)
+
+    pub depart_leaves : LeavesBoth state.base state.shared (depart state.shared (own_at state who)).shared
+    depart_leaves =
+        turn_leaves state who (departed_by state.shared own) live known
+        (depart_stays state.base state.shared own (named state who known.history.order is) (stands_at state who known.history.order live) (good_if_up state who known.history)
+        known.orderly.frozen)
+        (λ fallen. refl) (depart_adds state.shared own)
+
+    pub vanish_leaves : LeavesBoth state.base state.shared (vanish state.shared (own_at state who)).shared
+    vanish_leaves =
+        let images = vanished_leaves state.base state.shared own (named state who known.history.order is) known.orderly.frozen (fallen_at state.shared own.who) in
+        record {
+          left = (vanish_stays state.shared own (named state who known.history.order is) (stands_at state who known.history.order live) known.orderly.frozen).left;
+          images = record { stable = images.stable; held = images.held; pages = images.pages };
+        }
 
 -- the own parts have no part in the image that is due
 same_due : (state : State) (owns : List Own) (unfinished : Option Unfinished) → image_due state unfinished ≡ image_due (record state { owns = owns }) unfinished
 same_due state owns None = refl
 same_due state owns (Some one) = refl
 
+both_left : (state : State) (after : Shared) (owns : List Own) → IsOrderly state → LeavesBoth state.base state.shared after → HasStoredImage state
+    → HasStoredImage (record state { shared = after; owns = owns })
+both_left state after owns known both stored = image_left state after owns known.orderly both.left both.images stored
+
 stored_by_turns : KeptByTurns (λ state. ⊤) IsOrderly HasStoredImage
 stored_by_turns = record {
   hit = λ state who act page word value is calls known stored can.
       record { shape = stored.shape; image = stored.image ∙ same_due state (with_own state (with_call (own_at state who) act page word value)).owns state.unfinished; unfinished = stored.unfinished; doubtful = stored.doubtful };
-  joining = λ state who is known stored.
-      let own = own_at state who in
-      image_left state (join state.shared own).shared _ known.orderly (join_stays state.shared own (below_places state who known.history.order is) known.orderly.frozen).left
-      (leaves_same state.base state.shared _ (step_adds state (event.Join who) NothingFailed)) stored;
-  acquiring = λ state who wants calls is live known stored.
-      let own = own_at state who in
-      turn_stored state who (acquired_by state.shared own wants calls) live known stored
-      (acquire_stays state.base wants calls state.shared own (named state who known.history.order is) (stands_at state who known.history.order live)
-      (good_if_up state who known.history) known.history.exact.clients known.orderly.frozen)
-      (λ fallen. refl) (acquire_adds wants calls state.shared own);
-  serving = λ state who is live known stored.
-      let own = own_at state who in
-      turn_stored state who (served_by state.shared own) live known stored
-      (serve_stays state.base state.shared own (named state who known.history.order is) (stands_at state who known.history.order live) (good_if_up state who known.history)
-      known.orderly.frozen)
-      (λ fallen. refl) (serve_adds state.shared own);
-  stabilising = λ state who is live known stored.
-      let own = own_at state who in
-      turn_stored state who (stabilised_by state.shared own) live known stored
-      (stabilise_stays state.base state.shared own (named state who known.history.order is) (stands_at state who known.history.order live) (good_if_up state who known.history)
-      known.orderly.frozen)
-      (λ fallen. refl) (stabilise_adds state.shared own);
-  departing = λ state who is live known stored.
-      let own = own_at state who in
-      turn_stored state who (departed_by state.shared own) live known stored
-      (depart_stays state.base state.shared own (named state who known.history.order is) (stands_at state who known.history.order live) (good_if_up state who known.history)
-      known.orderly.frozen)
-      (λ fallen. refl) (depart_adds state.shared own);
-  vanishing = λ state who is live known stored.
-      let own = own_at state who in
-      let one = named state who known.history.order is in
-      let images = vanished_images state.base state.shared own one known.orderly.frozen (fallen_at state.shared own.who) in
-      image_left state (vanish state.shared own).shared _ known.orderly
-      (vanish_stays state.shared own one (stands_at state who known.history.order live) known.orderly.frozen).left
-      (record { stable = images.stable; held = images.held }) stored;
-  losing = λ state who is live known stored.
-      let both = lose_leaves_both state.base state.shared who is known.orderly.frozen (fallen_at state.shared who) in
-      image_left state (lose state.shared who).shared state.owns known.orderly both.left both.images stored;
+  joining = λ state who is known stored. both_left state _ _ known (join_leaves state who is known) stored;
+  acquiring = λ state who wants calls is live known stored. both_left state _ _ known (acquire_leaves state who is known live wants calls) stored;
+  serving = λ state who is live known stored. both_left state _ _ known (serve_leaves state who is known live) stored;
+  stabilising = λ state who is live known stored. both_left state _ _ known (stabilise_leaves state who is known live) stored;
+  departing = λ state who is live known stored. both_left state _ _ known (depart_leaves state who is known live) stored;
+  vanishing = λ state who is live known stored. both_left state _ _ known (vanish_leaves state who is known live) stored;
+  losing = λ state who is live known stored. both_left state _ _ known (lose_leaves state who is known) stored;
   writing = λ state outside lead one known stored job free. write_out_stored state outside lead one known.history known.orderly stored job free;
   finishing = λ state lead unfinished known stored e same. finish_stored state lead unfinished known.orderly stored e same;
   settling = λ state one known stored e. settle_stored state one known.orderly stored e;

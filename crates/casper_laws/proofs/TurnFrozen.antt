@@ -77,7 +77,7 @@ none_is_nil : (missing : List Want) → none_missing missing ≡ true → missin
 none_is_nil [] none = refl
 none_is_nil (want ∷ missing) none = absurd (true≢false (sym none))
 
-unrefused : {X : Type 0} (test : Bool) (x : X) → cond test (Some x) None ≡ None → test ≡ false
+pub unrefused : {X : Type 0} (test : Bool) (x : X) → cond test (Some x) None ≡ None → test ≡ false
 unrefused {X} test x is =
     false_from_ne_true test (λ holds. true≢false (ap is_some (sym (ap (λ one. cond one (Some x) None) holds) ∙ is)))
 

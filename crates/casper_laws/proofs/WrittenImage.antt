@@ -23,12 +23,12 @@ use Rattle.casper_laws.proofs.Touches.{writer_is_out}
 abbrev pub changes_to : (ℕ → List ℕ) → List ℕ → List Change
 changes_to words pages = map (λ page. record { page = page; words = words page }) pages
 
-length_changed : (words : ℕ → List ℕ) (pages : List ℕ) (image : List (List ℕ)) → length (with_changes image (changes_to words pages)) ≡ length image
+pub length_changed : (words : ℕ → List ℕ) (pages : List ℕ) (image : List (List ℕ)) → length (with_changes image (changes_to words pages)) ≡ length image
 length_changed words [] image = refl
 length_changed words (page ∷ pages) image = length_changed words pages (slice_set image page (words page)) ∙ length-set image page (words page)
 
 -- a page once these were changed
-changed_page : (words : ℕ → List ℕ) (pages : List ℕ) (image : List (List ℕ)) (page : ℕ) → page < length image
+pub changed_page : (words : ℕ → List ℕ) (pages : List ℕ) (image : List (List ℕ)) (page : ℕ) → page < length image
     → slice_index_or (with_changes image (changes_to words pages)) page [] ≡ cond (has_member page pages) (words page) (slice_index_or image page [])
 changed_page words [] image page below = refl
 changed_page words (first ∷ pages) image page below =

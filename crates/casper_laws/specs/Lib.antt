@@ -1,6 +1,11 @@
+pub mod Additions
+pub mod AnswerLaws
 pub mod FrozenLaws
+pub mod HeldWordSteps
+pub mod HeldWords
 pub mod MarkRoom
 pub mod OwnLists
 pub mod PendingLaws
 pub mod RecallLaws
+pub mod RunFacts
 pub mod StoredImage

@@ -1,7 +1,9 @@
-use Rattle.casper_model.proofs.StepAdditions.{step_adds}
 use Rattle.casper_model.proofs.ExactRuns.{every_run_exact}
 use Rattle.casper_model.proofs.RunHistory.{every_run_legal}
 use Rattle.casper_model.proofs.WholeRuns.{every_run_whole, every_run_live, every_run_stable}
+use Rattle.casper_laws.proofs.AddedBySteps.{every_run_adds_exactly}
+use Rattle.casper_laws.proofs.CallsInOrder.{every_run_in_order}
+use Rattle.casper_laws.proofs.CompletedCalls.{every_run_completes, every_departure_records}
 use Rattle.casper_laws.proofs.StepImage.{quiet_image, written_image}
 use Rattle.casper_laws.proofs.laws.law_of_one_history.Goals as goal
 
@@ -15,7 +17,16 @@ pub returns-clause-live : goal.returns-clause-live
 returns-clause-live c = every_run_live
 
 pub returns-clause-growth : goal.returns-clause-growth
-returns-clause-growth c = step_adds
+returns-clause-growth c = every_run_adds_exactly
+
+pub returns-clause-completed : goal.returns-clause-completed
+returns-clause-completed c = every_run_completes
+
+pub returns-clause-order : goal.returns-clause-order
+returns-clause-order c = every_run_in_order
+
+pub returns-clause-departure : goal.returns-clause-departure
+returns-clause-departure c = every_departure_records
 
 pub returns-clause-stable : goal.returns-clause-stable
 returns-clause-stable c = every_run_stable
