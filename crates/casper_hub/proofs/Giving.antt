@@ -39,6 +39,15 @@ pub fallen_from : (first second : Option Right) (right : Right) → Falls first 
 fallen_from None second right f is = cc
 fallen_from (Some before) second right f is = (before, refl)
 
+-- one that may write still could write before
+pub writes_before : (first second : Option Right) → Falls first second → second ≡ Some may.Write → first ≡ Some may.Write
+writes_before None second f is = cc
+writes_before (Some may.Write) second f is = refl
+writes_before (Some may.Read) second f is = absurd (write_is_not_read (subst (λ (o : Option Right). Falls (Some may.Read) o) is f))
+  where
+    write_is_not_read : may.Write ≡ may.Read → ⊥
+    write_is_not_read e = cc
+
 -- a client's held pages have the rights that it has
 pub held_as_covered : (who : ℕ) (pages : PagesView) (held : List Held) → Covers who pages held → AreAsHeld (right_at pages.rights who) held
 held_as_covered who pages held covers =
@@ -100,9 +109,8 @@ covers_after who pages after held held_after covers gives = record {
       ap (option_map (λ (h : Held). h.right)) (entry_of-kept (right_at pages.rights who) (right_at after.rights who) page held)
       ∙ of_entry page right before.0 before.1 is (entry_of page held) (λ entry found. entry_of-page page held entry found) (covers.held_so page before.0 before.1) in
       ap (right_of page) gives.held_is ∙ left;
-  framed = λ page right is.
-      let before = fallen_from (right_at pages.rights who page) (right_at after.rights who page) right (gives.falls page) is in
-      gives.framed page (covers.framed page before.0 before.1);
+  framed = λ page is.
+      gives.framed page (covers.framed page (writes_before (right_at pages.rights who page) (right_at after.rights who page) (gives.falls page) is));
 }
   where
     of_entry : (page : ℕ) (right before : Right) → right_at pages.rights who page ≡ Some before → right_at after.rights who page ≡ Some right → (o : Option Held) →
@@ -182,13 +190,13 @@ words_held page held is = of_entry (entry_of page held) is
     of_entry (Some entry) e = refl
 
 -- a page handed in: its frame is the client's, where the client wrote it, and every other frame stays
-frame_handed_in : (frames : List (Option (List ℕ))) (page q : ℕ) (words : Option (List ℕ)) (right : Right) → page < length frames →
+frame_handed_in : (frames : List (Option (List ℕ))) (page q : ℕ) (words : Option (List ℕ)) (right : Right) → (right ≡ may.Write → page < length frames) →
     get_or (cond (is_to_write right) (set frames page words) frames) q None ≡ cond (is_to_write right && nat_eq q page) words (get_or frames q None)
 frame_handed_in frames page q words may.Read within = refl
 frame_handed_in frames page q words may.Write within =
     ⊎_elim
     (λ (same : q ≡ page).
-    ap (λ (i : ℕ). get_or (set frames page words) i None) same ∙ get_or-set_same frames page words None within
+    ap (λ (i : ℕ). get_or (set frames page words) i None) same ∙ get_or-set_same frames page words None (within refl)
     ∙ ap (λ (b : Bool). cond b words (get_or frames q None)) (sym (eq-eqb q page same)))
     (λ (differ : q ≡ page → ⊥).
     get_or-set_other frames page q words None differ ∙ ap (λ (b : Bool). cond b words (get_or frames q None)) (sym (ne_eqb q page differ)))
@@ -229,13 +237,11 @@ gives_one who page keep right pages after held covers was writer count changes h
     frames_are : after.frames ≡ cond (is_to_write right) (set pages.frames page (words_of page held)) pages.frames
     frames_are = frames ∙ ap (λ (o : Option Right). cond (writes o) (set pages.frames page (words_of page held)) pages.frames) was
 
-    is_framed : IsSome (frame_in pages page)
-    is_framed = covers.framed page right was
-
     frame_of : (q : ℕ) → frame_in after q ≡ cond (is_to_write right && nat_eq q page) (words_of page held) (frame_in pages q)
     frame_of q =
         ap (λ (l : List (Option (List ℕ))). get_or l q None) frames_are
-        ∙ frame_handed_in pages.frames page q (words_of page held) right (within_frames pages.frames page is_framed)
+        ∙ frame_handed_in pages.frames page q (words_of page held) right
+        (λ writes. within_frames pages.frames page (covers.framed page (was ∙ ap (λ (r : Right). Some r) writes)))
 
     is_held : IsSome (words_of page held)
     is_held = words_held page held (ap is_some (covers.held_so page right was))

@@ -3,7 +3,7 @@ use Rattle.std.specs.Prelude.{Option, None, Some, IsSome, is_some, MatchOption, 
 use Rattle.std.proofs.Math.Nat.{min-le_left}
 use Rattle.std.proofs.lemmas.List.{length-map, length-take}
 use Rattle.casper_words.specs.Crew.{IsClient}
-use Rattle.casper_words.specs.declared.page.Right.{Right}
+use Rattle.casper_words.specs.declared.page.Right.TheVariants as may
 use Rattle.casper_words.specs.declared.page.Want.{Want}
 use Rattle.casper_words.specs.declared.call.Call.{Call}
 use Rattle.casper_trail.specs.TrailView.{entry_count}
@@ -19,12 +19,12 @@ use Rattle.casper_hub.specs.HubView.{HubView, PagesView, ClientView, client_in, 
 use Rattle.casper_hub.specs.Words.{live_value, stored_value, seen_value, AreWords, ServerIsRight, HeldIsRight, FramesAreRight, CacheIsRight}
 use Rattle.casper_hub.specs.Sound.{IsSound}
 use Rattle.casper_hub.specs.Owned.{Owns}
-use Rattle.casper_hub.specs.Installing.{with_pages, all_raised, all_granted, all_fronted}
+use Rattle.casper_hub.specs.Installing.{with_pages, all_raised, all_fronted}
 use Rattle.casper_hub.specs.Stages.{CanGrant, Grants}
 use Rattle.casper_hub.specs.Apart.{Apart}
 use Rattle.casper_hub.specs.Still.{Still}
 use Rattle.casper_hub.proofs.Left.{distinct-kept}
-use Rattle.casper_hub.proofs.Giving.{fallen_from, held_right_kept}
+use Rattle.casper_hub.proofs.Giving.{writes_before, held_right_kept}
 use Rattle.casper_hub.proofs.Relying.{apart_again, still_again, same_held}
 use Rattle.casper_hub.proofs.Changing.{same_rights, live_elsewhere, stored_stays, sound_changed, apart_changed, still_changed, room_changed}
 use Rattle.casper_hub.proofs.Opened.{Begins, live_with_cap, plain_with_cap, live_is_some, seen_without_calls, cap_of_with, same_server, opened_sound, opened_live, opened_cap, opened_frames, opened_words, opened_apart, opened_still}
@@ -65,18 +65,18 @@ place_live cap who opened live = live_with_asks [] (with_cap cap (client_in open
 place_cap : (cap who : ℕ) (opened : HubView) → is_live opened who ≡ true → cap_of (granted_place cap who opened) ≡ cap
 place_cap cap who opened live = cap_with_asks [] (with_cap cap (client_in opened who)) ∙ cap_of_with cap (client_in opened who) live
 
--- each page to which the client has a right then has a frame
+-- each page that the client may write then has a frame
 granted_framed : (hub : HubView) (own : cache.Own) (wants missing : List Want) (after : HubView) (own_after : cache.Own) (turn : Granting hub own wants missing after own_after)
-    → (page : ℕ) (right : Right) → right_at after.pages.rights own.client page ≡ Some right → IsSome (frame_in after.pages page)
-granted_framed hub own wants missing after own_after turn page right is =
-    let before = fallen_from (right_at granted.rights own.client page) (right_at after.pages.rights own.client page) right (turn.grants.gives.falls page) is in
-    let given : all_granted page (right_at opened.pages.rights own.client page) missing ≡ Some before.0 = sym (turn.grants.granted_rights page) ∙ before.1 in
+    → (page : ℕ) → right_at after.pages.rights own.client page ≡ Some may.Write → IsSome (frame_in after.pages page)
+granted_framed hub own wants missing after own_after turn page is =
+    let before : right_at granted.rights own.client page ≡ Some may.Write =
+    writes_before (right_at granted.rights own.client page) (right_at after.pages.rights own.client page) (turn.grants.gives.falls page) is in
     turn.grants.gives.framed page (subst (λ (frames : List (Option (List ℕ))). IsSome (get_or frames page None)) (sym turn.grants.granted_frames)
     (granted_from page (right_at opened.pages.rights own.client page) missing (IsSome (frame_in opened.pages page))
-    (λ had. of_right (right_at opened.pages.rights own.client page) refl had)
+    (λ had. (opened_is_sound hub own wants missing after own_after turn).framed own.client page had)
     (λ want inside here. turn.grants.opens.gives.framed page
     (subst (λ (q : ℕ). IsSome (frame_in hub.pages q)) here (missing_framed own.client hub own wants missing turn.can want inside)))
-    (ap is_some given)))
+    (sym (turn.grants.granted_rights page) ∙ before)))
   where
     opened : HubView
     opened = turn.grants.opened
@@ -84,15 +84,11 @@ granted_framed hub own wants missing after own_after turn page right is =
     granted : PagesView
     granted = turn.grants.granted
 
-    of_right : (o : Option Right) → right_at opened.pages.rights own.client page ≡ o → IsSome o → IsSome (frame_in opened.pages page)
-    of_right None is had = cc
-    of_right (Some right) is had = (opened_is_sound hub own wants missing after own_after turn).framed own.client page right is
-
 -- the hub is sound
 pub granted_sound : (hub : HubView) (own : cache.Own) (wants missing : List Want) (after : HubView) (own_after : cache.Own) → Granting hub own wants missing after own_after → IsSound after
 granted_sound hub own wants missing after own_after turn =
     subst (λ (h : HubView). IsSound h) (sym grants.hub_is)
-    (sound_changed opened (opened.trail ++ as_items (touches_by own.client missing)) own.client place after.pages opened_is turn.owns.client
+    (sound_changed opened (as_items (touches_by own.client missing)) (opened.trail ++ as_items (touches_by own.client missing)) own.client place after.pages opened_is turn.owns.client refl
     (room_changed opened (opened.trail ++ as_items (touches_by own.client missing)) own.client place opened_is turn.owns.client within)
     (plain_with_asks [] (with_cap cap (client_in opened own.client)) (plain_with_cap cap (client_in opened own.client) (opened_is.up own.client)))
     (asks_in_range [] (with_cap cap (client_in opened own.client)) (page_count opened) (λ ask inside. absurd (omega (arith, inside.1))))
@@ -277,7 +273,7 @@ granted_apart other hub own wants missing after own_after turn differ =
     (opened_apart own.client other hub (installed_in hub own missing) opened grants.opened_own (begins hub own wants missing after own_after turn) grants.opens differ)
     (subst (λ (h : HubView). Apart other opened h) (sym grants.hub_is)
     (apart_changed opened (as_items (touches_by own.client missing)) (opened.trail ++ as_items (touches_by own.client missing)) own.client other
-    (granted_place (grants.opened_own.cap - length missing) own.client opened) after.pages differ refl
+    (granted_place (grants.opened_own.cap - length missing) own.client opened) after.pages (opened_is_sound hub own wants missing after own_after turn) differ refl
     (touches_no_calls opened.trail own.client missing other) (grants.gives.rights_count ∙ grants.granted_count)
     (λ page. same_rights opened.pages.rights after.pages.rights page other grants.opens.gives.holders grants.gives.holders
     (λ is. grants.gives.others other page is differ ∙ grants.granted_others other page is differ))

@@ -184,7 +184,7 @@ begins_installed hub own missing sound owns = record {
     frames_count = sound.frames;
     distinct = distinct_with_pages hub.pages own.held missing owns.sound.distinct;
     held_so = λ page right is. right_with_pages hub.pages own.held missing page right ((covers_owned hub own sound owns).held_so page right is);
-    framed = λ page right is. sound.framed own.client page right is;
+    framed = λ page is. sound.framed own.client page is;
   };
   room = (begins_owned hub own sound owns).room;
   writes = writes_owned hub own sound owns;

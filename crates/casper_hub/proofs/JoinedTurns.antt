@@ -106,12 +106,12 @@ full_join who entries hub sound gone none count = record {
 -- a hub stays sound as a client joins within the free room
 pub sound_joined : (hub : HubView) (who cap : ℕ) → IsSound hub → IsClient who → is_some (client_in hub who) ≡ false → cap ≤ free_in hub → IsSound (with_client hub who cap)
 sound_joined hub who cap sound client gone room =
-    sound_changed hub hub.trail who (Some (new_client_view cap)) hub.pages sound client within
+    sound_changed hub [] hub.trail who (Some (new_client_view cap)) hub.pages sound client (sym (append-nil hub.trail)) within
     (λ one is. let same : new_client_view cap ≡ one = cc in subst (λ (v : ClientView). (v.kept ≡ None) × (v.fallen ≡ None)) same (refl, refl))
     (λ ask inside. absurd (omega (arith, inside.1)))
     refl refl sound.holders
     (λ none. absurd (true≢false (ap is_some none)))
-    (λ other page is apart. refl) (λ page right is. sound.framed who page right is) (λ page is. is)
+    (λ other page is apart. refl) (λ page is. sound.framed who page is) (λ page is. is)
   where
     within : entry_count hub.trail + caps_of (set hub.clients who (Some (new_client_view cap))) ≤ hub.limit
     within =
@@ -124,9 +124,9 @@ sound_joined hub who cap sound client gone room =
         omega (arith, caps, before, free)
 
 -- what other clients may rely on
-pub joined_apart : (hub : HubView) (who other cap : ℕ) → other ≢ who → Apart other hub (with_client hub who cap)
-joined_apart hub who other cap apart =
-    apart_changed hub [] hub.trail who other (Some (new_client_view cap)) hub.pages apart (sym (append-nil hub.trail)) refl refl (λ page. refl) (λ base page word held. refl)
+pub joined_apart : (hub : HubView) (who other cap : ℕ) → IsSound hub → other ≢ who → Apart other hub (with_client hub who cap)
+joined_apart hub who other cap sound apart =
+    apart_changed hub [] hub.trail who other (Some (new_client_view cap)) hub.pages sound apart (sym (append-nil hub.trail)) refl refl (λ page. refl) (λ base page word held. refl)
 
 -- behind a join the hub stands for the machine behind it
 joined_shows : (shared : Shared) (hub : HubView) (who cap : ℕ) → Shows shared hub → IsSound hub → IsClient who → is_some (client_in hub who) ≡ false

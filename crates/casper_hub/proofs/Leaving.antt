@@ -25,7 +25,7 @@ pub left_sound : (hub : HubView) (own : cache.Own) (after : HubView) (own_after 
     → Leaves own.client hub own after own_after → IsSound after
 left_sound hub own after own_after sound owns leaves =
     subst (λ (h : HubView). IsSound h) (sym leaves.hub_is)
-    (sound_changed opened opened.trail own.client None after.pages opened_is owns.client
+    (sound_changed opened [] opened.trail own.client None after.pages opened_is owns.client (sym (append-nil opened.trail))
     (room_changed opened opened.trail own.client None opened_is owns.client (omega arith))
     (λ client e. cc) (λ ask inside. absurd (omega (arith, inside.1)))
     leaves.gives.rights_count leaves.gives.frames_count leaves.gives.holders (λ none. leaves.none) leaves.gives.others
@@ -62,7 +62,7 @@ left_apart other hub own after own_after sound owns leaves differ =
     apart_again other hub opened after
     (opened_apart own.client other hub own opened leaves.opened_own (begins_owned hub own sound owns) leaves.opens differ)
     (subst (λ (h : HubView). Apart other opened h) (sym leaves.hub_is)
-    (apart_changed opened [] opened.trail own.client other None after.pages differ (sym (append-nil opened.trail)) refl leaves.gives.rights_count
+    (apart_changed opened [] opened.trail own.client other None after.pages (opened_before_leaving hub own after own_after sound owns leaves) differ (sym (append-nil opened.trail)) refl leaves.gives.rights_count
     (λ page. same_rights opened.pages.rights after.pages.rights page other leaves.opens.gives.holders leaves.gives.holders (λ is. leaves.gives.others other page is differ))
     (λ base page word held. refl)))
   where

@@ -36,4 +36,6 @@ pub mod Showing
 pub mod ShownAfter
 pub mod ShownPlaces
 pub mod Standing
+pub mod Supplied
 pub mod Touched
+pub mod Witness

@@ -1,5 +1,5 @@
 use Rattle.std.proofs.Common.{◌≡◌, ℕ, zero, suc, ◌+◌, ◌<◌, ◌^◌, List, [], cond, length, set, replicate, get_or, get_or-set_other, refl, sym, ap, ◌∙◌, subst, ⊎_elim, true≢false, Contains, arith}
-use Rattle.std.specs.Prelude.{Option, None, Some, IsSome, is_some}
+use Rattle.std.specs.Prelude.{Option, None, Some, IsSome, is_some, option_and_then}
 use Rattle.std.proofs.lemmas.Bool.{cases_lt, cond_both}
 use Rattle.std.proofs.lemmas.List.{get_or-replicate, get_or_past, length-replicate, length-set}
 use Rattle.std.proofs.lemmas.List.Sums.{sum_by-cons}
@@ -47,11 +47,12 @@ sound_new count limit trail places pages empty are long free holders frames shor
       omega (arith, entries, caps);
   fits = fits;
   absent = λ who page gone. free who page;
-  framed = λ who page right is. absurd (true≢false (ap is_some (sym is ∙ free who page)));
+  framed = λ who page is. absurd (true≢false (ap is_some (sym is ∙ free who page)));
   asked = λ who ask inside.
       let none : asks_of (place_in places who) ≡ [] = ap asks_of (nobody_live places are who) in
       let among : Contains [] ask = subst (λ (l : List Want). Contains l ask) none inside in
       absurd (omega (arith, among.1));
+  marked = λ who fallen fell. absurd (true≢false (ap is_some (sym fell ∙ ap (λ (o : Option ClientView). option_and_then (λ (client : ClientView). client.fallen) o) (nobody_live places are who))));
   quiet = refl;
   up = λ who client is. absurd (true≢false (ap is_some (sym is ∙ nobody_live places are who)));
 }
@@ -96,10 +97,11 @@ sound_supplied trail limit places pages after page frame sound rights frames = r
   within = sound.within;
   fits = sound.fits;
   absent = λ who other gone. ap (λ r. right_at r who other) rights ∙ sound.absent who other gone;
-  framed = λ who other right is.
+  framed = λ who other is.
       subst (λ (l : List (Option (List ℕ))). IsSome (get_or l other None)) (sym frames)
-      (frame_stays pages.frames page frame other (sound.framed who other right (ap (λ r. right_at r who other) (sym rights) ∙ is)));
+      (frame_stays pages.frames page frame other (sound.framed who other (ap (λ r. right_at r who other) (sym rights) ∙ is)));
   asked = λ who ask inside. subst (λ n. ask.page < n) (sym (ap length rights)) (sound.asked who ask inside);
+  marked = sound.marked;
   quiet = refl;
   up = sound.up;
 }

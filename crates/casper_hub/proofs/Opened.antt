@@ -39,7 +39,7 @@ use Rattle.casper_hub.specs.Still.{Still}
 use Rattle.casper_hub.proofs.Showing.{allows_right}
 use Rattle.casper_hub.proofs.Standing.{nobody_fell}
 use Rattle.casper_hub.proofs.Left.{entry_of-kept, distinct-kept}
-use Rattle.casper_hub.proofs.Giving.{fallen_from, held_right_kept}
+use Rattle.casper_hub.proofs.Giving.{writes_before, held_right_kept}
 use Rattle.casper_hub.proofs.Relying.{seen_plain, same_held, same_words}
 use Rattle.casper_hub.proofs.Changing.{nobody_beside, same_rights, live_elsewhere, stored_stays, sound_changed, apart_changed, still_changed}
 
@@ -72,7 +72,7 @@ covers_owned hub own sound owns = record {
   frames_count = sound.frames;
   distinct = owns.sound.distinct;
   held_so = λ page right is. sym (owns.rights (nobody_fell hub own.client sound) page) ∙ is;
-  framed = λ page right is. sound.framed own.client page right is;
+  framed = λ page is. sound.framed own.client page is;
 }
 
 -- and its pending writes have their rights
@@ -126,17 +126,16 @@ plain_with_cap cap (Some shown) plain client e =
 pub live_is_some : (place : Option ClientView) → is_some place ≡ true → place ≡ None → ⊥
 live_is_some place live none = true≢false (sym live ∙ ap is_some none)
 
--- what a client keeps is framed
+-- what a client keeps for writing is framed
 pub framed_left : (who : ℕ) (hub : HubView) (held held_after : List Held) (after : PagesView) → IsSound hub → GivesUp who hub.pages held after held_after
-    → (page : ℕ) (right : Right) → right_at after.rights who page ≡ Some right → IsSome (frame_in after page)
-framed_left who hub held held_after after sound gives page right is =
-    let before = fallen_from (right_at hub.pages.rights who page) (right_at after.rights who page) right (gives.falls page) is in
-    gives.framed page (sound.framed who page before.0 before.1)
+    → (page : ℕ) → right_at after.rights who page ≡ Some may.Write → IsSome (frame_in after page)
+framed_left who hub held held_after after sound gives page is =
+    gives.framed page (sound.framed who page (writes_before (right_at hub.pages.rights who page) (right_at after.rights who page) (gives.falls page) is))
 
 pub opened_sound : (who : ℕ) (hub : HubView) (own : cache.Own) (after : HubView) (own_after : cache.Own) → Begins who hub own → Opens who hub own after own_after → IsSound after
 opened_sound who hub own after own_after begins opens =
     subst (λ (h : HubView). IsSound h) (sym opens.hub_is)
-    (sound_changed hub (hub.trail ++ as_items (entries_by who own.pending)) who place after.pages begins.sound begins.covers.client within
+    (sound_changed hub (as_items (entries_by who own.pending)) (hub.trail ++ as_items (entries_by who own.pending)) who place after.pages begins.sound begins.covers.client refl within
     (plain_with_cap cap (client_in hub who) (begins.sound.up who))
     (λ ask inside. begins.sound.asked who ask (subst (λ (asks : List Want). Contains asks ask) (asks_with_cap cap (client_in hub who)) inside))
     opens.gives.rights_count opens.gives.frames_count opens.gives.holders
@@ -237,7 +236,7 @@ pub opened_apart : (who other : ℕ) (hub : HubView) (own : cache.Own) (after : 
 opened_apart who other hub own after own_after begins opens differ =
     subst (λ (h : HubView). Apart other hub h) (sym opens.hub_is)
     (apart_changed hub (as_items (entries_by who own.pending)) (hub.trail ++ as_items (entries_by who own.pending)) who other
-    (with_cap (topped own (free_in hub)) (client_in hub who)) after.pages differ refl
+    (with_cap (topped own (free_in hub)) (client_in hub who)) after.pages begins.sound differ refl
     (calls_of_another hub.trail who other own.pending (λ e. differ (sym e))) opens.gives.rights_count
     (λ page. same_rights hub.pages.rights after.pages.rights page other begins.sound.holders opens.gives.holders (λ is. opens.gives.others other page is differ))
     (λ base page word held.

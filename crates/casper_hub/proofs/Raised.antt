@@ -1,5 +1,5 @@
 use Rattle.std.proofs.Common.{◌≡◌, ◌≢◌, ℕ, zero, ◌∙◌, List, [], ◌∷◌, true, false, cond, ◌==◌, eqb-true, refl, sym, ap, subst, ⊎_elim, Contains, arith}
-use Rattle.std.specs.Prelude.{Option, None, Some, IsSome, option_map, IfSome}
+use Rattle.std.specs.Prelude.{Option, None, Some, option_map, IfSome}
 use Rattle.std.proofs.lemmas.Bool.{cases_eq}
 use Rattle.casper_words.specs.Crew.{IsClient}
 use Rattle.casper_words.specs.declared.page.Right.{Right}
@@ -57,13 +57,13 @@ right_fronted value held (want ∷ wants) right =
     right_fronted value (front_of want.page held) wants
     (same_words_held value held (front_of want.page held) (λ page. ap (option_map (λ (h : Held). h.words)) (front_keeps_entries want.page page held)) right)
 
--- a right that is there once wants are granted was there before, or its page is wanted
-pub granted_from : (page : ℕ) (right : Option Right) (wants : List Want) (P : Type 0) → (IsSome right → P) → ((want : Want) → Contains wants want → want.page ≡ page → P)
-    → IsSome (all_granted page right wants) → P
+-- a right to write that is there once wants are granted was there before, or its page is wanted
+pub granted_from : (page : ℕ) (right : Option Right) (wants : List Want) (P : Type 0) → (right ≡ Some may.Write → P) → ((want : Want) → Contains wants want → want.page ≡ page → P)
+    → all_granted page right wants ≡ Some may.Write → P
 granted_from page right [] P before wanted is = before is
 granted_from page right (want ∷ wants) P before wanted is =
     granted_from page (granted_right page right want) wants P
-    (λ now. (elim (want.page == page) as (λ b. (want.page == page) ≡ b → IsSome (cond b (Some (raised_right right want.right)) right) → P) [
+    (λ now. (elim (want.page == page) as (λ b. (want.page == page) ≡ b → cond b (Some (raised_right right want.right)) right ≡ Some may.Write → P) [
       | true ↦ λ here _. wanted want (zero, omega arith, refl) (eqb-true want.page page here)
       | false ↦ λ _ had. before had
     ]) refl now)

@@ -203,13 +203,13 @@ covers_given hub own wants missing opened opened_own granted ready gives = recor
   frames_count = ap length gives.frames ∙ before.frames_count ∙ sym gives.count;
   distinct = distinct_fronted (all_raised opened_own.held missing) wants (distinct_raised opened_own.held missing before.distinct);
   held_so = λ page right is. sym (rights_given hub own wants missing opened opened_own granted ready gives page) ∙ is;
-  framed = λ page right is.
+  framed = λ page is.
       subst (λ (frames : List (Option (List ℕ))). IsSome (get_or frames page None)) (sym gives.frames)
       (granted_from page (right_at opened.pages.rights own.client page) missing (IsSome (frame_in opened.pages page))
-      (λ had. let right = right_there (right_at opened.pages.rights own.client page) had in before.framed page right.0 right.1)
+      (λ had. before.framed page had)
       (λ want inside here. ready.opens.gives.framed page
       (subst (λ (q : ℕ). IsSome (frame_in hub.pages q)) here (missing_framed own.client hub own wants missing ready.can want inside)))
-      (ap is_some (sym (gives.rights page) ∙ is)));
+      (sym (gives.rights page) ∙ is));
 }
   where
     before : Covers own.client opened.pages opened_own.held

@@ -41,7 +41,7 @@ pub refused_sound : (asks : List Want) (hub : HubView) (own : cache.Own) (after 
     → Refuses own.client asks hub own after own_after → ((ask : Want) → Contains asks ask → ask.page < page_count hub) → IsSound after
 refused_sound asks hub own after own_after sound owns refuses range =
     subst (λ (h : HubView). IsSound h) (sym refuses.hub_is)
-    (sound_changed opened opened.trail own.client place opened.pages opened_is owns.client
+    (sound_changed opened [] opened.trail own.client place opened.pages opened_is owns.client (sym (append-nil opened.trail))
     (room_changed opened opened.trail own.client place opened_is owns.client (subst (λ n. entry_count opened.trail + n ≤ entry_count opened.trail + cap_in opened own.client) (sym (cap_with_asks asks (client_in opened own.client))) (omega arith)))
     (plain_with_asks asks (client_in opened own.client) (opened_is.up own.client))
     (asks_in_range asks (client_in opened own.client) (page_count opened) (λ ask inside. subst (λ n. ask.page < n) (sym count) (range ask inside)))
@@ -118,7 +118,8 @@ refused_apart asks other hub own after own_after sound owns refuses differ =
     apart_again other hub opened after
     (opened_apart own.client other hub own opened own_after (begins_owned hub own sound owns) refuses.opens differ)
     (subst (λ (h : HubView). Apart other opened h) (sym refuses.hub_is)
-    (apart_changed opened [] opened.trail own.client other (with_asks asks (client_in opened own.client)) opened.pages differ (sym (append-nil opened.trail)) refl refl
+    (apart_changed opened [] opened.trail own.client other (with_asks asks (client_in opened own.client)) opened.pages
+    (opened_sound own.client hub own opened own_after (begins_owned hub own sound owns) refuses.opens) differ (sym (append-nil opened.trail)) refl refl
     (λ page. refl) (λ base page word held. refl)))
   where
     opened : HubView

@@ -53,7 +53,7 @@ pub live_shown : (shared : Shared) (hub : HubView) (who : ℕ) → Shows shared 
 live_shown shared hub who shows sound live = live_by shared hub who (client_at shared who) (client_in hub who) sound refl refl live (shows.clients who)
 
 -- no client of a hub has fallen
-fallen_of_place : (place : Option ClientView) → ((client : ClientView) → place ≡ Some client → client.fallen ≡ None) → option_and_then (λ (client : ClientView). client.fallen) place ≡ None
+pub fallen_of_place : (place : Option ClientView) → ((client : ClientView) → place ≡ Some client → client.fallen ≡ None) → option_and_then (λ (client : ClientView). client.fallen) place ≡ None
 fallen_of_place None up = refl
 fallen_of_place (Some client) up = up client refl
 

@@ -62,14 +62,15 @@ pub record GivesUp (who : ℕ) (pages : PagesView) (held : List Held) (after : P
   pub framed : (page : ℕ) → IsSome (frame_in pages page) → IsSome (frame_in after page)
   pub words : (value stored : ℕ → ℕ → ℕ) → ServerIsRight value stored pages → HeldIsRight value held → ServerIsRight value stored after
 
--- a cache holds the pages to which its client has rights, each once and with these rights, and the server has a frame of each
+-- a cache holds the pages to which its client has rights, each once and with these rights, and the server has a frame of each that
+-- the client may write
 pub record Covers (who : ℕ) (pages : PagesView) (held : List Held) : Type 0 where
   pub client : IsClient who
   pub holders : AreAllClients pages.rights
   pub frames_count : length pages.frames ≡ length pages.rights
   pub distinct : ArePagesDistinct held
   pub held_so : (page : ℕ) (right : Right) → right_at pages.rights who page ≡ Some right → right_of page held ≡ Some right
-  pub framed : (page : ℕ) (right : Right) → right_at pages.rights who page ≡ Some right → IsSome (frame_in pages page)
+  pub framed : (page : ℕ) → right_at pages.rights who page ≡ Some may.Write → IsSome (frame_in pages page)
 
 -- a client gave pages up to asks, of which the first test says which pages others ask to write, and the second which they ask for
 pub record Meets (who : ℕ) (wholly asked : ℕ → Bool) (pages : PagesView) (held : List Held) (after : PagesView) (held_after : List Held) : Type 0 where

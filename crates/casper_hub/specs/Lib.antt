@@ -12,6 +12,7 @@ pub mod Relying
 pub mod Shows
 pub mod Sound
 pub mod Stages
+pub mod Standing
 pub mod Still
 pub mod Turns
 pub mod Words

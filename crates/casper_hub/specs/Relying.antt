@@ -4,7 +4,6 @@ use Rattle.casper_cache.specs.Holding.{word_of}
 use Rattle.casper_cache.specs.Own as cache
 use Rattle.casper_hub.specs.HubView.{HubView}
 use Rattle.casper_hub.specs.Owned.{Owns}
-use Rattle.casper_hub.specs.Sound.{IsSound}
 use Rattle.casper_hub.specs.Words.{CacheIsRight, seen_value}
 use Rattle.casper_hub.specs.Apart.{Apart}
 use Rattle.casper_hub.specs.Still.{Still}
@@ -22,12 +21,12 @@ StillItself = (hub : HubView) → Still hub hub
 abbrev pub StillAgain : Type 0
 StillAgain = (first second third : HubView) → Still first second → Still second third → Still first third
 
--- a cache stays that of its client while others act, and its words stay right
+-- a cache stays that of its client while others act, and its words stay right, also where its client falls
 abbrev pub OwnsWhileApart : Type 0
 OwnsWhileApart = (hub after : HubView) (own : cache.Own) → Owns hub own → Apart own.client hub after → Owns after own
 
 abbrev pub RightWhileApart : Type 0
-RightWhileApart = (base : List (List ℕ)) (hub after : HubView) (own : cache.Own) → IsSound after → Owns hub own → Apart own.client hub after
+RightWhileApart = (base : List (List ℕ)) (hub after : HubView) (own : cache.Own) → Owns hub own → Apart own.client hub after
     → CacheIsRight base hub own → CacheIsRight base after own
 
 -- and behind a hit

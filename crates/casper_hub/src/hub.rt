@@ -75,6 +75,7 @@ impl Hub {
         ensures frames { (base : List (List ℕ)) → FramesAreRight base self.old → FramesAreRight base self.new }
         ensures sound { IsSound self.new }
     {
+        // So that the proof knows the bounds of the number.
         let _number = who.number();
         if self.clients.is_live(who) {
             return Err(JoinRefusal::Busy);
@@ -99,6 +100,8 @@ impl Hub {
         ensures but_frames { self.new ≡ record self.old { pages = record self.old.pages { frames = self.new.pages.frames } } }
         ensures frames { (base : List (List ℕ)) → (marks ≡ commit_count self.old.trail → IsStored base self.old page frame)
             → FramesAreRight base self.old → FramesAreRight base self.new }
+        ensures others { (other : ℕ) → Apart other self.old self.new }
+        ensures still { Still self.old self.new }
         ensures sound { IsSound self.new }
     {
         if self.trail.commits() != marks {

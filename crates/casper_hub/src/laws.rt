@@ -1,3 +1,4 @@
+ghost use Rattle.casper_hub.specs.Standing.{EachHubStandsForSome};
 ghost use Rattle.casper_hub.specs.Relying.{ApartItself, ApartAgain, StillItself, StillAgain, OwnsWhileApart, RightWhileApart, OwnsBehindRead, OwnsBehindWrite, RightBehindRead, RightBehindWrite, HitsReadWhatIsSeen};
 
 /// What a client may rely on while others act. It does nothing.
@@ -17,4 +18,9 @@ pub fn hit_laws()
     ensures right_read { RightBehindRead }
     ensures right_write { RightBehindWrite }
     ensures seen { HitsReadWhatIsSeen }
+{}
+
+/// What a hub stands for. It does nothing.
+pub fn standing_laws()
+    ensures { EachHubStandsForSome }
 {}

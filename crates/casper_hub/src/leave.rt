@@ -1,4 +1,4 @@
-ghost use Rattle.std.specs.Prelude.{◌≡◌, ◌≢◌, ℕ, List, false, [], None, IfOk, OnOk, OnErr};
+ghost use Rattle.std.specs.Prelude.{◌≡◌, ◌≢◌, ℕ, List, false, true, [], None, IfOk, OnOk, OnErr};
 ghost use Rattle.casper_model.specs.Leave.{serve as machine_serve, depart as machine_depart};
 ghost use Rattle.casper_hub.specs.HubView.{is_live as is_live_in};
 ghost use Rattle.casper_hub.specs.Owned.{Owns};
@@ -55,8 +55,10 @@ impl Hub {
         ensures memory { OnErr result (self.new ≡ self.old) }
         ensures cache_stays { OnErr result (cache.new ≡ cache.old) }
         ensures absent { IfOk result (λ reply. reply ≡ Served.Ok → is_live_in self.new who ≡ false) }
+        ensures owned { is_live_in self.new who ≡ true → Owns self.new cache.new }
         ensures client_after { cache.new.client ≡ who }
         ensures frames { (base : List (List ℕ)) → FramesAreRight base self.old → CacheIsRight base self.old cache.old → FramesAreRight base self.new }
+        ensures words { (base : List (List ℕ)) → FramesAreRight base self.old → CacheIsRight base self.old cache.old → CacheIsRight base self.new cache.new }
         ensures others { (other : ℕ) → other ≢ who → Apart other self.old self.new }
         ensures still { Still self.old self.new }
         ensures sound { IsSound self.new }

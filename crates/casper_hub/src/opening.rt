@@ -35,13 +35,7 @@ pub(crate) fn free_room(trail: &Trail, limit: u32, clients: &Clients) -> u32
 }
 
 /// Records the pending calls of a client, in order, and tops its cap up as far as the free room allows. It takes no memory.
-pub(crate) fn record(
-    trail: &mut Trail,
-    clients: &mut Clients,
-    who: Who,
-    cache: &mut Cache,
-    free: u32,
-)
+fn record(trail: &mut Trail, clients: &mut Clients, who: Who, cache: &mut Cache, free: u32)
     requires room { length cache.old.pending ≤ trail.old.room }
     requires limit { entry_count trail.old.items + length cache.old.pending ≤ trail.old.limit }
     requires cap { cap_of (place_in clients.old who) ≡ cache.old.cap }
@@ -93,7 +87,7 @@ fn meet_each(pages: &mut Pages, who: Who, cache: &mut Cache, asks: &[Want])
 }
 
 /// The same for the asks of all other clients.
-pub(crate) fn meet_all(pages: &mut Pages, clients: &Clients, who: Who, cache: &mut Cache)
+fn meet_all(pages: &mut Pages, clients: &Clients, who: Who, cache: &mut Cache)
     requires covers { Covers who pages.old cache.old.held }
     requires asked { (other : ℕ) (ask : AnAsk) → Contains (asks_of (place_in clients.now other)) ask → ask.page < length pages.old.rights }
     ensures meets { Meets who (asked_below 33 is_to_write clients.now who) (asked_below 33 any_right clients.now who) pages.old cache.old.held pages.new cache.new.held }

@@ -58,6 +58,7 @@ impl Pages {
         requires { page < length self.now.rights }
         ensures { result ≡ is_some (frame_in self.now page) }
     {
+        // So that the proof knows the invariant: there are as many frames as pages.
         let _rights = &self.directory;
         self.frames[page.0 as usize].is_some()
     }
@@ -90,6 +91,7 @@ impl Pages {
         requires framed { IsSome (frame_in self.now page) }
         ensures { IfOk result (λ frame. frame_in self.now page ≡ Some frame) }
     {
+        // So that the proof knows the invariant: there are as many frames as pages.
         let _rights = &self.directory;
         match &self.frames[page.0 as usize] {
             Some(frame) => frame.copy(self.alloc),
@@ -103,6 +105,7 @@ impl Pages {
         ensures rights { self.new.rights ≡ self.old.rights }
         ensures frames { self.new.frames ≡ (if is_some (frame_in self.old page) then self.old.frames else slice_set self.old.frames page (Some frame)) }
     {
+        // So that the proof knows the invariant: there are as many frames as pages.
         let _rights = &self.directory;
         let place = &mut self.frames[page.0 as usize];
         if place.is_none() {
@@ -127,7 +130,7 @@ impl Pages {
     pub(crate) fn give_up(&mut self, who: Who, cache: &mut Cache, page: Page, keep: bool)
         requires page { page < length self.old.rights }
         requires held { IsSome (right_of page cache.old.held) }
-        requires framed { IsSome (frame_in self.old page) }
+        requires framed { right_at self.old.rights who page ≡ Some Right.Write → IsSome (frame_in self.old page) }
         requires kept { IsTrue keep → writer_at self.old.rights page ≡ Some who }
         ensures count { length self.new.rights ≡ length self.old.rights }
         ensures rights { ChangesOneRight self.old.rights self.new.rights who page (if keep then Some Right.Read else None) }

@@ -20,13 +20,6 @@ give_up-requires-clause-held c =
     last_of c.args.cache.now.held c.as_slice.result.now c.in-Some.page.now c.requires.covers.distinct (c.as_slice.ensures ∙ c.evict-last.ensures) (sym c.in-Some.ensures.value) in
     last.held_is
 
-pub give_up-requires-clause-framed : goal.give_up-requires-clause-framed
-give_up-requires-clause-framed c =
-    let last : IsLast c.in-Some.page.now c.args.cache.now.held =
-    last_of c.args.cache.now.held c.as_slice.result.now c.in-Some.page.now c.requires.covers.distinct (c.as_slice.ensures ∙ c.evict-last.ensures) (sym c.in-Some.ensures.value) in
-    let right = last_right c.args.pages.now.rights c.args.who c.in-Some.page.now c.args.cache.now.held c.requires.all last in
-    c.requires.covers.framed c.in-Some.page.now right.0 right.1
-
 pub returns-clause-gives : goal.returns-clause-gives
 returns-clause-gives c =
     let last : IsLast c.in-Some.page.now c.args.cache.now.held =

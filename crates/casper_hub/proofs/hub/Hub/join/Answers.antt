@@ -59,7 +59,7 @@ returns-clause-others c other apart =
     subst (λ (h : HubView). Apart other h (hub_of c.self.inside.trail.items c.self.inside.limit c.join.new.self c.self.inside.pages)) c.self.view_is
     (subst (λ (places : List (Option ClientView)). Apart other (hub_of c.self.inside.trail.items c.self.inside.limit c.self.inside.clients c.self.inside.pages)
     (hub_of c.self.inside.trail.items c.self.inside.limit places c.self.inside.pages)) (sym c.join.ensures)
-    (joined_apart (hub_of c.self.inside.trail.items c.self.inside.limit c.self.inside.clients c.self.inside.pages) c.args.who other c.min.result apart))
+    (joined_apart (hub_of c.self.inside.trail.items c.self.inside.limit c.self.inside.clients c.self.inside.pages) c.args.who other c.min.result c.self.invariant.0 apart))
 
 pub returns-clause-frames : goal.returns-clause-frames
 returns-clause-frames c base frames = subst (λ (h : HubView). FramesAreRight base h) (sym c.self.view_is) frames
