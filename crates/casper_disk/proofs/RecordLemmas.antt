@@ -85,50 +85,39 @@ miss_elapses steps content loose more may_differ grows within = record {
   agrees = λ image since. ⊎_elim (λ now. agrees_less may_differ more content image within now) (λ left. absurd (omega (arith, left.early, left.within))) since;
 }
 
-content_at_before : (steps : List Step) (last : Step) (content after : List (List ℕ)) (moment : ℕ) → moment ≤ length steps
+pub content_at_before : (steps : List Step) (last : Step) (content after : List (List ℕ)) (moment : ℕ) → moment ≤ length steps
     → content_before (last ∷ []) after ≡ content → content_at (steps ++ last ∷ []) after moment ≡ content_at steps content moment
 content_at_before steps last content after moment within undone =
     ap (λ rest. content_before rest after) (drop-append-le moment steps (last ∷ []) within)
     ∙ content_before-append (drop moment steps) (last ∷ []) after
     ∙ ap (content_before (drop moment steps)) undone
 
-loose_at_before : (steps : List Step) (last : Step) (moment : ℕ) → moment ≤ length steps → loose_at (steps ++ last ∷ []) moment ≡ loose_at steps moment
+pub loose_at_before : (steps : List Step) (last : Step) (moment : ℕ) → moment ≤ length steps → loose_at (steps ++ last ∷ []) moment ≡ loose_at steps moment
 loose_at_before steps last moment within = ap (loose_after none_loose) (take-append-le moment steps (last ∷ []) within)
 
--- a call that adds a step
-pub step_elapses : (steps longer : List Step) (last : Step) (content after : List (List ℕ)) (loose more may_differ : ℕ → Bool)
+-- a call that adds a step, where what a stop now may leave stays
+stay_elapses : (steps longer : List Step) (last : Step) (content after : List (List ℕ)) (loose more may_differ : ℕ → Bool)
     → longer ≡ steps ++ last ∷ [] → content_before (last ∷ []) after ≡ content
-    → ((at : ℕ) → loose_after none_loose steps at ≡ false → loose at ≡ false)
+    → ((past : ℕ) (image : List (List ℕ)) → past ≤ length steps → AgreesBut loose content image → Since (steps ++ last ∷ []) after more past image)
     → ((at : ℕ) → may_differ at ≡ false → loose_after none_loose steps at ≡ false)
     → ((at : ℕ) → may_differ at ≡ false → more at ≡ false) → AgreesBut may_differ content after
     → Elapses (length steps) (length longer) (Since steps content loose) (Since longer after more) may_differ content
-step_elapses steps longer last content after loose more may_differ is undone unmarked was within changed =
+stay_elapses steps longer last content after loose more may_differ is undone stays was within changed =
     subst (λ (list : List Step). Elapses (length steps) (length list) (Since steps content loose) (Since list after more) may_differ content) (sym is) (record {
       later = omega (arith, length-append steps (last ∷ []));
       only = λ past image early since. ⊎_elim (λ now. inr (inl now))
           (λ left. ⊎_elim (λ before. inl (inr (moved left before))) (λ at_end. inr (inr (record { moment = left.moment; early = at_end; within = left.within; agrees = left.agrees })))
           (cases_lt left.moment (length steps))) since;
-      keeps = λ past image early since. inr (⊎_elim
-          (λ now. record {
-            moment = length steps;
-            early = early;
-            within = omega (arith, length-append steps (last ∷ []));
-            agrees =
-                subst (λ (l : ℕ → Bool). AgreesBut l (content_at (steps ++ last ∷ []) after (length steps)) image) (sym (loose_at_before steps last (length steps) (omega arith)))
-                (subst (λ (b : List (List ℕ)). AgreesBut (loose_at steps (length steps)) b image)
-                (sym (content_at_before steps last content after (length steps) (omega arith) undone ∙ ap (λ rest. content_before rest content) (drop_all (length steps) steps (omega arith))))
-                (agrees_less (loose_at steps (length steps)) loose content image
-                (λ at settled. unmarked at (sym (ap (λ list. loose_after none_loose list at) (take_all (length steps) steps (omega arith))) ∙ settled)) now));
-          })
-          (λ left. record {
+      keeps = λ past image early since. ⊎_elim (stays past image early)
+          (λ left. inr (record {
             moment = left.moment;
             early = left.early;
             within = omega (arith, left.within, length-append steps (last ∷ []));
             agrees =
                 subst (λ (l : ℕ → Bool). AgreesBut l (content_at (steps ++ last ∷ []) after left.moment) image) (sym (loose_at_before steps last left.moment (omega (arith, left.within))))
                 (subst (λ (b : List (List ℕ)). AgreesBut (loose_at steps left.moment) b image) (sym (content_at_before steps last content after left.moment (omega (arith, left.within)) undone)) left.agrees);
-          })
-          since);
+          }))
+          since;
       agrees = λ image since. ⊎_elim
           (λ now. record { count = now.count ∙ changed.count; same = λ at settled. now.same at (within at settled) ∙ changed.same at settled })
           (λ left.
@@ -152,6 +141,28 @@ step_elapses steps longer last content after loose more may_differ is undone unm
           subst (λ (l : ℕ → Bool). AgreesBut l (content_at steps content left.moment) image) (loose_at_before steps last left.moment (omega arith))
           (subst (λ (b : List (List ℕ)). AgreesBut (loose_at (steps ++ last ∷ []) left.moment) b image) (content_at_before steps last content after left.moment (omega arith) undone) left.agrees);
     }
+
+-- a call that adds a step
+pub step_elapses : (steps longer : List Step) (last : Step) (content after : List (List ℕ)) (loose more may_differ : ℕ → Bool)
+    → longer ≡ steps ++ last ∷ [] → content_before (last ∷ []) after ≡ content
+    → ((at : ℕ) → loose_after none_loose steps at ≡ false → loose at ≡ false)
+    → ((at : ℕ) → may_differ at ≡ false → loose_after none_loose steps at ≡ false)
+    → ((at : ℕ) → may_differ at ≡ false → more at ≡ false) → AgreesBut may_differ content after
+    → Elapses (length steps) (length longer) (Since steps content loose) (Since longer after more) may_differ content
+step_elapses steps longer last content after loose more may_differ is undone unmarked was within changed =
+    stay_elapses steps longer last content after loose more may_differ is undone
+    (λ past image early now. inr (record {
+      moment = length steps;
+      early = early;
+      within = omega (arith, length-append steps (last ∷ []));
+      agrees =
+          subst (λ (l : ℕ → Bool). AgreesBut l (content_at (steps ++ last ∷ []) after (length steps)) image) (sym (loose_at_before steps last (length steps) (omega arith)))
+          (subst (λ (b : List (List ℕ)). AgreesBut (loose_at steps (length steps)) b image)
+          (sym (content_at_before steps last content after (length steps) (omega arith) undone ∙ ap (λ rest. content_before rest content) (drop_all (length steps) steps (omega arith))))
+          (agrees_less (loose_at steps (length steps)) loose content image
+          (λ at settled. unmarked at (sym (ap (λ list. loose_after none_loose list at) (take_all (length steps) steps (omega arith))) ∙ settled)) now));
+    }))
+    was within changed
 
 -- a write, taken back
 pub written_back : (content : List (List ℕ)) (at : ℕ) (bytes was : List ℕ) → was ≡ get_or content at [] → set (set content at bytes) at was ≡ content
@@ -223,6 +234,20 @@ armed_loose steps longer marks after is none = fun_ext (λ other.
     ap (λ loose. loose other || is_marked after other) (ap (loose_after none_loose) is ∙ loose_after-append none_loose steps (step.Missed marks ∷ []))
     ∙ ap (λ mark. (loose_after none_loose steps other || is_marked marks.items other) || mark) (none other)
     ∙ or-false (loose_after none_loose steps other || is_marked marks.items other))
+
+-- the images after a new record began
+pub armed_elapses : (steps longer : List Step) (content : List (List ℕ)) (marks : Vec Bool Global) (after : List Bool)
+    → longer ≡ steps ++ step.Missed marks ∷ [] → ((at : ℕ) → is_marked after at ≡ false)
+    → Elapses (length steps) (length longer) (Since steps content (loose_with steps marks.items)) (Since longer content (loose_with longer after))
+    (loose_with steps marks.items) content
+armed_elapses steps longer content marks after is none =
+    let before = loose_with steps marks.items in
+    let same : loose_with longer after ≡ before = armed_loose steps longer marks after is none in
+    stay_elapses steps longer (step.Missed marks) content content before (loose_with longer after) before is refl
+    (λ past image early now. inl (subst (λ (l : ℕ → Bool). AgreesBut l content image) (sym same) now))
+    (λ at settled. (or_parts (loose_after none_loose steps at) (is_marked marks.items at) settled).0)
+    (λ at settled. ap (λ loose. loose at) same ∙ settled)
+    (agrees_itself before content)
 
 -- a disk without a record and without marks has no loose block
 pub fresh_loose : (marks : List Bool) (count : ℕ) → marks ≡ replicate count false → loose_with [] marks ≡ none_loose

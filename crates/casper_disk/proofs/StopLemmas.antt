@@ -1,4 +1,4 @@
-use Rattle.std.proofs.Common.{◌≡◌, ◌⊎◌, ◌&&◌, ◌==◌, ℕ, zero, suc, ◌+◌, ◌-◌, ◌<◌, ◌≤◌, Bool, true, false, List, [], ◌∷◌, length, take, drop, min, refl, sym, ◌∙◌, ap, subst, inl, inr, ⊎_elim, arith, add-one}
+use Rattle.std.proofs.Common.{◌≡◌, ◌⊎◌, ◌&&◌, ◌||◌, ◌==◌, ℕ, zero, suc, ◌+◌, ◌-◌, ◌<◌, ◌≤◌, Bool, true, false, List, [], ◌∷◌, length, take, drop, min, refl, sym, ◌∙◌, ap, subst, inl, inr, ⊎_elim, arith, add-one}
 use Rattle.std.specs.Prelude.{nat_le, nat_lt, slice_range, if◌then◌else◌}
 use Rattle.std.proofs.lemmas.Bool.{or_parts, or_from, cases_lt, cases_Bool, cond_both, eqb-false, both_ways, leb-true, leb-false, le-ltb}
 use Rattle.std.proofs.lemmas.List.{get_or-set_other, length-set, length-take, take_all, get_or-take, get_or-drop, take_more, drop_more, drop_all}
@@ -8,6 +8,7 @@ use Rattle.casper_disk.specs.MemDisk.{Held, held_loose, held_since}
 use Rattle.casper_disk.specs.Record.{is_marked, content_before, content_at, loose_after, loose_at, agrees_itself}
 use Rattle.casper_disk.specs.StepKinds.{is_synced, is_written}
 use Rattle.casper_disk.specs.Stopped.{step_at, settled_before, stop_moment, began, loose_within}
+use Rattle.casper_disk.specs.StopLaw.{EndsWithLastSync, EndsWithNow}
 use Rattle.casper_disk.specs.Touched.{touches, touched}
 use Rattle.casper_disk.specs.declared.step.Step.{Step}
 use Rattle.casper_disk.specs.declared.step.Step.TheVariants as step
@@ -115,7 +116,7 @@ stop_split disk call before some =
     (λ other. (within, omega arith, omega arith))))
     (λ late. inr (leb-false call (length disk.steps - disk.armed) late, refl))
 
-and_right : (a b : Bool) → b ≡ false → (a && b) ≡ false
+pub and_right : (a b : Bool) → b ≡ false → (a && b) ≡ false
 and_right true b is = is
 and_right false b is = refl
 
@@ -187,3 +188,34 @@ pub stop_torn : (disk : Held) (call : ℕ) (written image : List (List ℕ)) →
     → held_since disk (began disk call) image
 stop_torn disk call written image before some is agrees =
     stop_image disk call image before some (subst (λ (blocks : List (List ℕ)). AgreesBut (loose_within disk call) blocks image) is agrees)
+
+-- what is settled before a moment ends with the last sync before it
+pub last_sync : (steps : List Step) (moment : ℕ) → EndsWithLastSync steps moment (settled_before steps moment)
+last_sync steps zero = record {
+  early = omega arith;
+  sync = λ some. absurd (omega (arith, some));
+  last = λ at late early. absurd (omega (arith, early));
+}
+last_sync steps (suc at) =
+    cond_both (is_synced (step_at steps at)) (at + 1) (settled_before steps at) (EndsWithLastSync steps (suc at))
+    (λ synced. record {
+      early = omega arith;
+      sync = λ some. let place : at + 1 - 1 ≡ at = omega arith in ap (λ (p : ℕ). is_synced (step_at steps p)) place ∙ synced;
+      last = λ place late early. absurd (omega (arith, late, early));
+    })
+    (λ unsynced.
+    let earlier = last_sync steps at in
+    record {
+      early = omega (arith, earlier.early);
+      sync = earlier.sync;
+      last = λ place late early. ⊎_elim (λ before. earlier.last place late before)
+          (λ past. let e : place ≡ at = omega (arith, past, early) in ap (λ (p : ℕ). is_synced (step_at steps p)) e ∙ unsynced)
+          (cases_lt place at);
+    })
+
+-- a record ends with what is now
+pub ends_now : (disk : Held) → EndsWithNow disk
+ends_now disk = record {
+  content = content_end disk.steps disk.content (length disk.steps) refl;
+  loose = λ at. ap (λ loose. loose at || is_marked disk.marks at) (sym (loose_end disk.steps (length disk.steps) refl));
+}

@@ -1,11 +1,14 @@
-use Rattle.std.proofs.Common.{◌≡◌, ◌⊎◌, ◌<◌, ◌≤◌, ◌+◌, ◌++◌, ℕ, suc, true, List, [], ◌∷◌, Option, None, length, map, take, drop, set, replicate, get_or, refl, sym, ◌∙◌, ap, inl, inr, ⊎_elim, arith, is_some}
+use Rattle.std.proofs.Common.{◌≡◌, ◌⊎◌, ◌<◌, ◌≤◌, ◌+◌, ◌++◌, ℕ, suc, true, List, [], ◌∷◌, Option, None, length, map, take, drop, set, replicate, get_or, refl, sym, ◌∙◌, ap, subst, inl, inr, ⊎_elim, arith, is_some}
+use Rattle.std.specs.Prelude.{Contains}
 use Rattle.std.proofs.Math.Seq.{take-append_seam, map-set_same}
 use Rattle.std.proofs.lemmas.Bool.{cases_lt}
 use Rattle.std.proofs.lemmas.Bool.Decides.{eqb_tells}
-use Rattle.std.proofs.lemmas.List.{ext_get_or, length-map, length-replicate, get_or-map, get_or-replicate, map-set, drop_more, get_or-set_same, get_or-set_other, get_or_read}
+use Rattle.std.proofs.lemmas.List.{ext_get_or, length-map, length-replicate, get_or-map, get_or-replicate, map-set, drop_more, drop-append-le, length_push, get_or-set_same, get_or-set_other, get_or_read}
+use Rattle.std.proofs.lemmas.List.Elements.{Contains-append_left, Contains-push, Contains-push_cases}
+use Rattle.std.proofs.Math.Seq.{drop-length}
 use Rattle.casper_space.specs.Changes.{Change, with_changes}
 use Rattle.casper_disk.specs.Vault.{Saved, Adds, IsEither, changes_of, page_at, version_after}
-use Rattle.casper_disk.specs.MemVault.{words_in, is_held, whole}
+use Rattle.casper_disk.specs.MemVault.{HeldPages, words_in, is_held, whole, held_image, held_saved, saved_since}
 
 -- the first of these pages have frames
 abbrev pub HoldsFirst : List (Option (List ℕ)) → List (ℕ × List ℕ) → ℕ → Type 0
@@ -131,6 +134,36 @@ pub saved_after : (image after : List (List ℕ)) (changes : List Change) (versi
 saved_after image after changes version next later saved image_is version_is is =
     inr (is ∙ ap (λ (pages : List (List ℕ)). record { image = pages; version = later }) image_is
     ∙ ap (λ (number : ℕ). record { image = with_changes image changes; version = number }) version_is)
+
+-- a commit of which the past keeps what was before it
+pub noted_adds : (old after : HeldPages) (changes : List Change) (next : ℕ) → after.past ≡ old.past ++ held_saved old ∷ []
+    → ((saved : Saved) → saved ≡ held_saved after → IsEither (held_image old) old.version changes next saved)
+    → Adds (length old.past) (length after.past) (saved_since old) (saved_since after) (IsEither (held_image old) old.version changes next)
+noted_adds old after changes next noted made = record {
+  later = omega (arith, ap length noted, length_push old.past (held_saved old));
+  only = λ moment saved early since. ⊎_elim
+      (λ now. inr (inl now))
+      (λ was. ⊎_elim
+      (λ before. inl (inr before))
+      (λ last. inl (inl (sym last)))
+      (Contains-push_cases (drop moment old.past) (held_saved old) saved (subst (λ list. Contains list saved) (behind moment early) was)))
+      since;
+  keeps = λ moment saved early since. ⊎_elim
+      (λ now. inr (subst (λ list. Contains list saved) (sym (behind moment early))
+      (subst (λ (one : Saved). Contains (drop moment old.past ++ held_saved old ∷ []) one) (sym now) (Contains-push (drop moment old.past) (held_saved old)))))
+      (λ was. inr (subst (λ list. Contains list saved) (sym (behind moment early)) (Contains-append_left (drop moment old.past) (held_saved old ∷ []) saved was)))
+      since;
+  agrees = λ saved since. ⊎_elim
+      (λ now. made saved now)
+      (λ was. ⊎_elim
+      (λ before. let none : Contains [] saved = subst (λ list. Contains list saved) (drop-length old.past) before in let early = none.1 in absurd (omega (arith, early)))
+      (λ last. inl (sym last))
+      (Contains-push_cases (drop (length old.past) old.past) (held_saved old) saved (subst (λ list. Contains list saved) (behind (length old.past) (omega arith)) was)))
+      since;
+}
+  where
+    behind : (moment : ℕ) → moment ≤ length old.past → drop moment after.past ≡ drop moment old.past ++ held_saved old ∷ []
+    behind moment early = ap (drop moment) noted ∙ drop-append-le moment old.past (held_saved old ∷ []) early
 
 -- two calls, one after the other: what a stop since an earlier moment might have left was so before both, or may be so of one of them
 pub adds_both : (start middle end_at : ℕ) (first second third : ℕ → Saved → Type 0) (may_first may_second : Saved → Type 0)

@@ -2,11 +2,13 @@ pub mod Disk
 pub mod File
 pub mod Plan
 pub mod MemDisk
+pub mod Calls
 pub mod Record
 pub mod Sound
 pub mod Place
 pub mod Slots
 pub mod Stopped
+pub mod StopLaw
 pub mod StepKinds
 pub mod Vault
 pub mod CommitFaults

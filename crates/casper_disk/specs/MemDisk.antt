@@ -1,6 +1,6 @@
-use Rattle.std.specs.Prelude.{◌||◌, ℕ, Bool, List}
+use Rattle.std.specs.Prelude.{◌||◌, ℕ, Bool, false, List, [], length, replicate}
 use Rattle.casper_disk.specs.Disk.{none_loose}
-use Rattle.casper_disk.specs.Plan.{Planned}
+use Rattle.casper_disk.specs.Plan.{Planned, unplanned}
 use Rattle.casper_disk.specs.Record.{is_marked, loose_after, Since}
 use Rattle.casper_disk.specs.declared.step.Step.{Step}
 
@@ -21,3 +21,14 @@ held_loose disk at = loose_after none_loose disk.steps at || is_marked disk.mark
 -- the images that a stop at any moment since that one might have left
 abbrev pub held_since : Held → ℕ → List (List ℕ) → Type 0
 held_since disk past image = Since disk.steps disk.content (held_loose disk) past image
+
+-- a disk of these blocks, none of them loose, with room for as many steps, of which no call was made
+abbrev pub fresh_disk : List (List ℕ) → ℕ → Held
+fresh_disk blocks room = record {
+  content = blocks;
+  steps = [];
+  armed = 0;
+  room = room;
+  marks = replicate (length blocks) false;
+  plan = unplanned;
+}

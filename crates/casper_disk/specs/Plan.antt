@@ -1,4 +1,4 @@
-use Rattle.std.specs.Prelude.{◌==◌, ◌&&◌, ℕ, ◌+◌, ◌-◌, ◌^◌, List, Bool, true, false, min}
+use Rattle.std.specs.Prelude.{◌==◌, ◌&&◌, ℕ, ◌+◌, ◌-◌, ◌^◌, List, [], Bool, true, false, min}
 use Rattle.std.specs.List.{list_any}
 use Rattle.casper_disk.specs.declared.fail.Kind.{Kind}
 use Rattle.casper_disk.specs.declared.fail.Kind.TheVariants as kind
@@ -15,6 +15,10 @@ pub record Planned : Type 0 where
   pub writes : ℕ
   pub syncs : ℕ
   pub faults : ℕ
+
+-- no call was made, and none is to fail
+abbrev pub unplanned : Planned
+unplanned = record { fails = []; reads = 0; writes = 0; syncs = 0; faults = 0 }
 
 -- whether two kinds are the same
 abbrev pub is_same_kind : Kind → Kind → Bool

@@ -49,6 +49,17 @@ pub only_left_now : (steps : List Step) (content : List (List ℕ)) (loose : ℕ
 only_left_now steps content loose image (inl now) = now
 only_left_now steps content loose image (inr past) = absurd (omega (arith, past.early, past.within))
 
+-- what a stop since some moment might have left, one since an earlier moment might have left
+pub since_earlier : (steps : List Step) (content : List (List ℕ)) (loose : ℕ → Bool) (earlier later : ℕ) (image : List (List ℕ)) → earlier ≤ later
+    → Since steps content loose later image → Since steps content loose earlier image
+since_earlier steps content loose earlier later image order (inl now) = inl now
+since_earlier steps content loose earlier later image order (inr past) = inr (record {
+  moment = past.moment;
+  early = omega (arith, order, past.early);
+  within = past.within;
+  agrees = past.agrees;
+})
+
 -- blocks agree with themselves
 pub agrees_itself : (loose : ℕ → Bool) (blocks : List (List ℕ)) → AgreesBut loose blocks blocks
 agrees_itself loose blocks = record { count = refl; same = λ at settled. refl }

@@ -1,7 +1,9 @@
-use Rattle.std.specs.Prelude.{ℕ, List, [], ◌∷◌, Bool, Option, Some, None, slice_index_or, if◌then◌else◌}
+use Rattle.std.specs.Prelude.{◌==◌, ◌&&◌, not, ℕ, Bool, List, [], ◌∷◌, Bool, Option, Some, None, slice_index_or, if◌then◌else◌}
 use Rattle.std.specs.Str.{bytes_eq}
 use Rattle.casper_disk.specs.MemDisk.{Held}
-use Rattle.casper_disk.specs.Place.{Place, Missing, Out, Standing}
+use Rattle.std.specs.List.{list_any}
+use Rattle.casper_disk.specs.Place.{Place, Missing, Out, Standing, is_standing, is_there}
+use Rattle.casper_disk.specs.Plan.{next_count}
 
 -- a name of a shelf in memory, with its disk where that is not out
 pub record Stored : Type 0 where
@@ -30,3 +32,22 @@ place_in (slot ∷ slots) name = if bytes_eq slot.name name then place_of slot.d
 -- whether the slot at a place has the name
 abbrev pub is_named_at : List Stored → List ℕ → ℕ → Bool
 is_named_at slots name at = bytes_eq (slice_index_or slots at (record { name = []; disk = None })).name name
+
+-- whether the next open or make is one of those that are to fail; they are counted over both
+abbrev pub is_listed_next : Shelved → Bool
+is_listed_next shelf = list_any (λ number. number == next_count shelf.asked) shelf.fails
+
+-- whether an open of a name fails: its disk stands there, and the call is listed
+abbrev pub fails_open : Shelved → List ℕ → Bool
+fails_open shelf name = is_standing (place_in shelf.slots name) && is_listed_next shelf
+
+-- whether a make of a name fails: the name is not there, and the call is listed
+abbrev pub fails_make : Shelved → List ℕ → Bool
+fails_make shelf name = not (is_there (place_in shelf.slots name)) && is_listed_next shelf
+
+-- a shelf after an open or a make, which failed or did not, but for the disks on it
+abbrev pub after_ask : Bool → Shelved → Shelved
+after_ask failed shelf = record shelf {
+  asked = next_count shelf.asked;
+  faults = if failed then next_count shelf.faults else shelf.faults;
+}

@@ -62,9 +62,10 @@ abbrev pub IsEither : List (List ℕ) → ℕ → List Change → ℕ → Saved 
 IsEither image version changes next saved =
     saved ≡ record { image = image; version = version } ⊎ saved ≡ record { image = with_changes image changes; version = next }
 
--- A call of a vault takes time: to what a stop since an earlier moment might have left it adds only what a stop since its own
--- start might have left, and that may be so.
+-- A call of a vault takes time: what a stop since an earlier moment might have left stays, and to that it adds only what a stop since
+-- its own start might have left, and that may be so.
 pub record Adds (before now : ℕ) (past since : ℕ → Saved → Type 0) (may_be : Saved → Type 0) : Type 0 where
   pub later : before ≤ now
   pub only : (moment : ℕ) (saved : Saved) → moment ≤ before → since moment saved → past moment saved ⊎ since before saved
+  pub keeps : (moment : ℕ) (saved : Saved) → moment ≤ before → past moment saved → since moment saved
   pub agrees : (saved : Saved) → since before saved → may_be saved

@@ -44,7 +44,7 @@ pub trait Disk {
     fn blocks(&self) -> u32
         ensures { result ≡ size self.now };
 
-    /// Reads a block. It changes nothing.
+    /// Reads a block into this one, which may hold anything after a fault. It changes nothing of the disk.
     fn read(&mut self, at: u32, into: &mut Block) -> Result<(), DiskFault>
         requires { at < size self.old }
         ensures block { IsTrue tells → OnOk result (into.new ≡ block_at (content self.old) at) }
@@ -98,4 +98,8 @@ pub trait Disk {
     /// Since now there are only the images of now.
     ghost only_now: { (disk : Self) (image : List (List ℕ)) → IsTrue tells → images_since disk (moment disk) image →
         images_now disk image };
+
+    /// The images since some moment are among those since an earlier one.
+    ghost earlier_counts: { (disk : Self) (earlier later : ℕ) (image : List (List ℕ)) → IsTrue tells → earlier ≤ later →
+        images_since disk later image → images_since disk earlier image };
 }

@@ -1,6 +1,3 @@
-ghost use Rattle.std.specs.Prelude.{◌≡◌};
-ghost use Rattle.casper_disk.specs.Plan.{is_same_kind};
-
 /// A kind of call of a disk.
 #[derive(Clone, Copy, Debug, PartialEq, Eq)]
 pub enum Kind {
@@ -9,22 +6,12 @@ pub enum Kind {
     Sync,
 }
 
-impl Kind {
-    pub(crate) fn is(self, other: Kind) -> bool
-        ensures { result ≡ is_same_kind self other }
-    {
-        match self {
-            Kind::Read => matches!(other, Kind::Read),
-            Kind::Write => matches!(other, Kind::Write),
-            Kind::Sync => matches!(other, Kind::Sync),
-        }
-    }
-}
-
-/// A call that is to fail: the one with this number among the calls of its kind, which are counted from 1.
+/// A call that is to fail. The calls of each kind are counted from 1.
 #[derive(Clone, Copy, Debug, PartialEq, Eq)]
 pub struct Fail {
+    /// The kind of the call.
     pub kind: Kind,
+    /// The number of the call among those of its kind.
     pub number: u64,
 }
 

@@ -110,4 +110,27 @@ impl Disk for FileDisk {
     ghost now_counts = { λ disk past image told early now. absurd (untold told) };
 
     ghost only_now = { λ disk image told since. absurd (untold told) };
+
+    ghost earlier_counts = { λ disk earlier later image told order since. absurd (untold told) };
+}
+
+#[cfg(test)]
+mod tests {
+    use super::*;
+    use std::fs;
+    use std::test::Fail;
+
+    #[test]
+    fn a_file_that_was_cut_fails(rt: HostRuntime) -> Result<(), Fail> {
+        let path = "casper_disk_file_test";
+        let file = fs::create(&rt, path)?;
+        file.set_len(8191)?;
+        let mut disk = FileDisk::new(fs::open(&rt, path)?)?;
+        file.set_len(0)?;
+        let mut block = Block::zero(rt.alloc())?;
+        assert!(rt; disk.blocks() == 1);
+        assert_eq!(rt; disk.read(0, &mut block), Err(DiskFault::Failed));
+        fs::remove_file(&rt, path)?;
+        Ok(())
+    }
 }

@@ -1,14 +1,16 @@
-ghost use Rattle.std.specs.Prelude.{◌≡◌, ◌⊎◌, ◌||◌, ◌==◌, ◌+◌, ◌-◌, ◌<◌, ◌≤◌, ◌^◌, ℕ, Bool, true, false, List, [], length, replicate, slice_set, is_err, IfOk, OnOk, OnErr};
+ghost use Rattle.std.specs.Prelude.{◌≡◌, ◌||◌, ◌==◌, ◌+◌, ◌-◌, ◌<◌, ◌≤◌, ◌^◌, ℕ, Bool, true, false, List, length, replicate, slice_set, is_err, IfOk, OnOk, OnErr};
 ghost use Rattle.std.proofs.Common.{inl, refl};
 ghost use Rattle.casper_words.specs.Count.{Rose};
 ghost use Rattle.casper_disk.specs.declared.fail.Kind.TheVariants as kind;
 ghost use Rattle.casper_disk.specs.Disk.{block_at, none_loose, with_loose, AgreesBut, Elapses, Stands};
-ghost use Rattle.casper_disk.specs.Record.{only_left_now, agrees_itself, content_at};
+ghost use Rattle.casper_disk.specs.Record.{only_left_now, since_earlier, agrees_itself, content_at};
 ghost use Rattle.casper_disk.specs.Stopped.{settled_before, stop_moment, began, loose_within};
-ghost use Rattle.casper_disk.specs.Plan.{count_of, armed_with, fails_next};
-ghost use Rattle.casper_disk.specs.MemDisk.{held_loose, held_since};
+ghost use Rattle.casper_disk.specs.Plan.{count_of, fails_next};
+ghost use Rattle.casper_disk.specs.MemDisk.{held_loose, held_since, fresh_disk};
+ghost use Rattle.casper_disk.specs.Calls.{after_read, after_write, after_sync, IsArmed, KeepsRecord};
 ghost use Rattle.casper_disk.specs.Touched.{AreTorn};
 
+use crate::blocks::{copies, zero_blocks};
 use crate::plan::Plan;
 use crate::step::Step;
 use crate::tear::{tear_marked, tear_written};
@@ -52,40 +54,11 @@ impl Model for MemDisk {
         (vec_capacity own.steps) own.marks.items };
 }
 
-/// As many zero blocks.
-fn zero_blocks(alloc: Global, count: usize) -> Result<Vec<Block>, Memory>
-    ensures { IfOk result (λ blocks. blocks.items ≡ replicate count (replicate 4096 0)) }
-{
-    let mut blocks = Vec::with_capacity(alloc, count)?;
-    for _ in 0..count {
-        blocks.push(Block::zero(alloc)?)?;
-    }
-    Ok(blocks)
-}
-
-/// The same blocks again.
-fn copies(alloc: Global, blocks: &[Block]) -> Result<Vec<Block>, Memory>
-    ensures { IfOk result (λ again. again.items ≡ blocks.now) }
-{
-    let mut again = Vec::with_capacity(alloc, blocks.len())?;
-    for block in blocks {
-        let mut copy = Block::zero(alloc)?;
-        copy.copy_from(block);
-        again.push(copy)?;
-    }
-    Ok(again)
-}
-
 /// A disk of these blocks, none of them loose, with room for as many writes and syncs.
-fn holding(alloc: Global, blocks: Vec<Block>, calls: usize) -> Result<MemDisk, Memory>
+fn disk_of(alloc: Global, blocks: Vec<Block>, calls: usize) -> Result<MemDisk, Memory>
     requires { length blocks.items < 2 ^ 32 }
-    ensures content { IfOk result (λ disk. disk.content ≡ blocks.items) }
-    ensures steps { IfOk result (λ disk. disk.steps ≡ []) }
-    ensures armed { IfOk result (λ disk. disk.armed ≡ 0) }
-    ensures room { IfOk result (λ disk. disk.room ≡ calls) }
-    ensures marks { IfOk result (λ disk. disk.marks ≡ replicate (length blocks.items) false) }
+    ensures fresh { IfOk result (λ disk. disk ≡ fresh_disk blocks.items calls) }
     ensures loose { IfOk result (λ disk. held_loose disk ≡ none_loose) }
-    ensures plan { IfOk result (λ disk. disk.plan ≡ record { fails = []; reads = 0; writes = 0; syncs = 0; faults = 0 }) }
 {
     let spare = zero_blocks(alloc, calls)?;
     let steps = Vec::with_capacity(alloc, calls)?;
@@ -104,16 +77,11 @@ fn holding(alloc: Global, blocks: Vec<Block>, calls: usize) -> Result<MemDisk, M
 impl MemDisk {
     /// A disk of as many zero blocks, none of them loose, with room for `calls` writes and syncs.
     pub fn new(alloc: Global, blocks: u32, calls: u32) -> Result<MemDisk, Memory>
-        ensures content { IfOk result (λ disk. disk.content ≡ replicate blocks (replicate 4096 0)) }
-        ensures steps { IfOk result (λ disk. disk.steps ≡ []) }
-        ensures armed { IfOk result (λ disk. disk.armed ≡ 0) }
-        ensures room { IfOk result (λ disk. disk.room ≡ calls) }
-        ensures marks { IfOk result (λ disk. disk.marks ≡ replicate blocks false) }
+        ensures fresh { IfOk result (λ disk. disk ≡ fresh_disk (replicate blocks (replicate 4096 0)) calls) }
         ensures loose { IfOk result (λ disk. held_loose disk ≡ none_loose) }
-        ensures plan { IfOk result (λ disk. disk.plan ≡ record { fails = []; reads = 0; writes = 0; syncs = 0; faults = 0 }) }
     {
         let contents = zero_blocks(alloc, blocks as usize)?;
-        holding(alloc, contents, calls as usize)
+        disk_of(alloc, contents, calls as usize)
     }
 
     /// Begins a new record, with room for `calls` writes and syncs. From then on the calls of each kind are counted from 1, and
@@ -121,10 +89,10 @@ impl MemDisk {
     pub fn arm(&mut self, fails: &[Fail], calls: u32) -> Result<(), Memory>
         ensures content { self.new.content ≡ self.old.content }
         ensures loose { held_loose self.new ≡ held_loose self.old }
-        ensures plan { OnOk result (self.new.plan ≡ armed_with fails.now self.old.plan) }
-        ensures room { OnOk result (self.new.room ≡ calls) }
-        ensures newly { OnOk result (self.new.armed ≡ length self.new.steps) }
-        ensures clock { length self.old.steps ≤ length self.new.steps }
+        ensures after { OnOk result (IsArmed fails.now calls self.old self.new) }
+        ensures record { OnOk result (KeepsRecord self.old self.new) }
+        ensures images { OnOk result (Elapses (length self.old.steps) (length self.new.steps) (held_since self.old)
+            (held_since self.new) (held_loose self.old) self.old.content) }
         ensures err { OnErr result (self.new ≡ self.old) }
     {
         let spare = zero_blocks(self.alloc, calls as usize)?;
@@ -150,18 +118,17 @@ impl MemDisk {
         ensures torn { (byte : ℕ) → pick ≡ Pick.Torn byte → IfOk result (λ disk. AreTorn (loose_within self.now call) byte
             (content_at self.now.steps self.now.content (stop_moment self.now call)) disk.content) }
         ensures image { IfOk result (λ disk. held_since self.now (began self.now call) disk.content) }
-        ensures steps { IfOk result (λ disk. disk.steps ≡ []) }
+        ensures fresh { IfOk result (λ disk. disk ≡ fresh_disk disk.content (length self.now.steps - self.now.armed + self.now.room)) }
         ensures loose { IfOk result (λ disk. held_loose disk ≡ none_loose) }
-        ensures room { IfOk result (λ disk. disk.room ≡ length self.now.steps - self.now.armed + self.now.room) }
     {
         let mut blocks = copies(alloc, self.blocks.as_slice())?;
-        self.leave(call, pick, &mut blocks);
+        self.apply_stop(call, pick, &mut blocks);
         let room = (self.steps.len() - self.armed).saturating_add(self.spare.len());
-        holding(alloc, blocks, room)
+        disk_of(alloc, blocks, room)
     }
 
     /// Makes of the blocks of this disk those that a stop within a call leaves.
-    fn leave(&self, call: u64, pick: Pick, blocks: &mut Vec<Block>)
+    fn apply_stop(&self, call: u64, pick: Pick, blocks: &mut Vec<Block>)
         requires some { 1 ≤ call }
         requires content { blocks.old.items ≡ self.now.content }
         ensures written { pick ≡ Pick.New → blocks.new.items ≡ content_at self.now.steps self.now.content (stop_moment self.now call) }
@@ -172,7 +139,7 @@ impl MemDisk {
         ensures image { held_since self.now (began self.now call) blocks.new.items }
         ensures count { length blocks.new.items ≡ length blocks.old.items }
     {
-        let moment = self.moment(call);
+        let moment = self.stop_moment(call);
         match pick {
             Pick::Old => undo(&self.steps, settled_before(&self.steps, moment), blocks),
             Pick::New => undo(&self.steps, moment, blocks),
@@ -188,7 +155,7 @@ impl MemDisk {
         requires { 1 ≤ call }
         ensures { AreTorn (loose_within self.now call) byte blocks.old.items blocks.new.items }
     {
-        let moment = self.moment(call);
+        let moment = self.stop_moment(call);
         let settled = settled_before(&self.steps, moment);
         tear_written(&self.steps[settled..moment], byte, blocks);
         if call > (self.steps.len() - self.armed) as u64 {
@@ -197,7 +164,7 @@ impl MemDisk {
     }
 
     /// The moment of a stop within a call.
-    fn moment(&self, call: u64) -> usize
+    fn stop_moment(&self, call: u64) -> usize
         requires { 1 ≤ call }
         ensures moment { result ≡ stop_moment self.now call }
         ensures within { result ≤ length self.now.steps }
@@ -243,6 +210,7 @@ impl Disk for MemDisk {
     fn read(&mut self, at: u32, into: &mut Block) -> Result<(), DiskFault>
         requires { at < length self.old.content }
         ensures fails { is_err result ≡ fails_next self.old.plan kind.Read }
+        ensures after { self.new ≡ after_read self.old }
         ensures block { OnOk result (into.new ≡ block_at self.old.content at) }
         ensures size { length self.new.content ≡ length self.old.content }
         ensures content { self.new.content ≡ self.old.content }
@@ -260,10 +228,13 @@ impl Disk for MemDisk {
         Ok(())
     }
 
-    /// Fails exactly where this call is one of those that are to fail, or no room is left.
+    /// Fails exactly where this call is one of those that are to fail, or no room is left. With room the bytes are there, whatever
+    /// it answers.
     fn write(&mut self, at: u32, from: &Block) -> Result<(), DiskFault>
         requires { at < length self.old.content }
         ensures fails { is_err result ≡ (fails_next self.old.plan kind.Write || self.old.room == 0) }
+        ensures after { self.new ≡ after_write at from.now self.old }
+        ensures record { KeepsRecord self.old self.new }
         ensures size { length self.new.content ≡ length self.old.content }
         ensures written { OnOk result (self.new.content ≡ slice_set self.old.content at from.now) }
         ensures others { AgreesBut (λ other. other == at) self.old.content self.new.content }
@@ -289,6 +260,8 @@ impl Disk for MemDisk {
     /// Fails exactly where this call is one of those that are to fail, or no room is left.
     fn sync(&mut self) -> Result<(), DiskFault>
         ensures fails { is_err result ≡ (fails_next self.old.plan kind.Sync || self.old.room == 0) }
+        ensures after { self.new ≡ after_sync self.old }
+        ensures record { KeepsRecord self.old self.new }
         ensures size { length self.new.content ≡ length self.old.content }
         ensures content { self.new.content ≡ self.old.content }
         ensures settled { OnOk result (held_loose self.new ≡ none_loose) }
@@ -320,6 +293,9 @@ impl Disk for MemDisk {
     ghost now_counts = { λ disk past image told early now. inl now };
 
     ghost only_now = { λ disk image told left. only_left_now disk.steps disk.content (held_loose disk) image left };
+
+    ghost earlier_counts = { λ disk earlier later image told order left.
+        since_earlier disk.steps disk.content (held_loose disk) earlier later image order left };
 }
 
 #[cfg(test)]
@@ -358,24 +334,45 @@ mod tests {
     }
 
     /// Writes this byte at both ends of the first block.
-    fn mark(rt: &impl Abort, disk: &mut MemDisk, block: &mut Block, byte: u8) {
+    fn mark(
+        rt: &impl Abort,
+        disk: &mut MemDisk,
+        block: &mut Block,
+        byte: u8,
+    ) -> Result<(), DiskFault> {
         assert!(rt; disk.blocks() > 0);
         block.put(0, &[byte]);
         block.put(4095, &[byte]);
-        assert_eq!(rt; disk.write(0, block), Ok(()));
+        disk.write(0, block)
+    }
+
+    /// The bytes that a stop leaves at both ends of the first block.
+    fn ends(
+        rt: &impl Abort,
+        alloc: Global,
+        disk: &MemDisk,
+        call: u64,
+        pick: Pick,
+    ) -> Result<[u8; 2], Memory> {
+        let most = disk
+            .count(Kind::Write)
+            .saturating_add(disk.count(Kind::Sync));
+        assert!(rt; 1 <= call && call <= most.saturating_add(1));
+        let mut left = disk.stopped(alloc, call, pick)?;
+        let mut block = Block::zero(alloc)?;
+        assert!(rt; left.blocks() > 0);
+        assert_eq!(rt; left.read(0, &mut block), Ok(()));
+        Ok([block.bytes()[0], block.bytes()[4095]])
     }
 
     #[test]
     fn stops(rt: HostRuntime) -> Result<(), test::Fail> {
         let mut disk = MemDisk::new(rt.alloc(), 1, 8)?;
         let mut block = Block::zero(rt.alloc())?;
-        mark(&rt, &mut disk, &mut block, 1);
-        mark(&rt, &mut disk, &mut block, 2);
+        assert_eq!(rt; mark(&rt, &mut disk, &mut block, 1), Ok(()));
+        assert_eq!(rt; mark(&rt, &mut disk, &mut block, 2), Ok(()));
         assert_eq!(rt; disk.sync(), Ok(()));
-        mark(&rt, &mut disk, &mut block, 3);
-        let most = disk
-            .count(Kind::Write)
-            .saturating_add(disk.count(Kind::Sync));
+        assert_eq!(rt; mark(&rt, &mut disk, &mut block, 3), Ok(()));
         let table = [
             (1, Pick::Old, [0, 0]),
             (1, Pick::New, [1, 1]),
@@ -394,12 +391,50 @@ mod tests {
             (5, Pick::Torn(9), [3, 9]),
         ];
         for (call, pick, want) in table {
-            assert!(rt; 1 <= call && call <= most.saturating_add(1));
-            let mut left = disk.stopped(rt.alloc(), call, pick)?;
-            assert!(rt; left.blocks() > 0);
-            assert_eq!(rt; left.read(0, &mut block), Ok(()));
-            let ends = [block.bytes()[0], block.bytes()[4095]];
-            assert_eq!(rt; ends, want, "at {call}");
+            assert_eq!(rt;
+                ends(&rt, rt.alloc(), &disk, call, pick)?,
+                want,
+                "at {call}"
+            );
+        }
+        Ok(())
+    }
+
+    /// The block is loose as the second record begins, and has 1 at the last sync before it. The first write of that record
+    /// fails, and its bytes are used all the same.
+    #[test]
+    fn stops_in_a_second_record(rt: HostRuntime) -> Result<(), test::Fail> {
+        let mut disk = MemDisk::new(rt.alloc(), 1, 8)?;
+        let mut block = Block::zero(rt.alloc())?;
+        assert_eq!(rt; mark(&rt, &mut disk, &mut block, 1), Ok(()));
+        assert_eq!(rt; disk.sync(), Ok(()));
+        assert_eq!(rt; mark(&rt, &mut disk, &mut block, 2), Ok(()));
+        let write = Fail {
+            kind: Kind::Write,
+            number: 1,
+        };
+        disk.arm(&[write], 8)?;
+        assert_eq!(rt; mark(&rt, &mut disk, &mut block, 3), Err(DiskFault::Failed));
+        assert_eq!(rt; disk.sync(), Ok(()));
+        assert_eq!(rt; mark(&rt, &mut disk, &mut block, 4), Ok(()));
+        let table = [
+            (1, Pick::Old, [1, 1]),
+            (1, Pick::New, [3, 3]),
+            (1, Pick::Torn(9), [3, 9]),
+            (2, Pick::Old, [1, 1]),
+            (2, Pick::New, [3, 3]),
+            (2, Pick::Torn(9), [3, 9]),
+            (3, Pick::Old, [3, 3]),
+            (3, Pick::New, [4, 4]),
+            (3, Pick::Torn(9), [4, 9]),
+            (4, Pick::Old, [3, 3]),
+        ];
+        for (call, pick, want) in table {
+            assert_eq!(rt;
+                ends(&rt, rt.alloc(), &disk, call, pick)?,
+                want,
+                "at {call}"
+            );
         }
         Ok(())
     }

@@ -1,6 +1,10 @@
-ghost use Rattle.std.specs.Prelude.{◌≡◌, [], true, IfOk};
+ghost use Rattle.std.specs.Prelude.{◌≡◌, ◌≢◌, ◌↔◌, ℕ, ◌≤◌, List, [], true, replicate, IsTrue, IsFalse, IsErrOf, IfOk, OnOk, OnErr};
 ghost use Rattle.std.proofs.Common.{refl};
-ghost use Rattle.casper_disk.specs.Slots.{place_in};
+ghost use Rattle.casper_words.specs.Count.{Rose};
+ghost use Rattle.casper_disk.specs.Disk.{none_loose};
+ghost use Rattle.casper_disk.specs.MemDisk.{held_loose, fresh_disk};
+ghost use Rattle.casper_disk.specs.Place.{Out, Standing, is_standing, is_there};
+ghost use Rattle.casper_disk.specs.Slots.{place_in, fails_open, fails_make, after_ask};
 
 use crate::slots::Slots;
 use crate::{MemDisk, Shelf, ShelfFault};
@@ -58,7 +62,20 @@ impl Shelf for MemShelf {
 
     ghost faults = { λ shelf. shelf.faults };
 
-    fn open(&mut self, _alloc: Global, name: &[u8]) -> Result<MemDisk, ShelfFault> {
+    /// Fails exactly where a disk stands under the name and this call is one of those that are to fail.
+    fn open(&mut self, _alloc: Global, name: &[u8]) -> Result<MemDisk, ShelfFault>
+        ensures nosuch { IsErrOf result ShelfFault.NoSuch ↔ IsFalse (is_standing (place_in self.old.slots name.now)) }
+        ensures failed { IsErrOf result ShelfFault.Failed ↔ IsTrue (fails_open self.old name.now) }
+        ensures stood { IfOk result (λ disk. place_in self.old.slots name.now ≡ Standing disk) }
+        ensures out { OnOk result (place_in self.new.slots name.now ≡ Out) }
+        ensures others { (other : List ℕ) → other ≢ name.now → place_in self.new.slots other ≡ place_in self.old.slots other }
+        ensures kept { OnErr result (place_in self.new.slots name.now ≡ place_in self.old.slots name.now) }
+        ensures after { self.new ≡ record (after_ask (fails_open self.old name.now) self.old) { slots = self.new.slots } }
+        ensures new_alone { IsErrOf result ShelfFault.Exists → ⊥ }
+        ensures no_memory { IsErrOf result ShelfFault.Memory → ⊥ }
+        ensures counted { IsErrOf result ShelfFault.Failed → Rose self.old.faults self.new.faults }
+        ensures never_falls { self.old.faults ≤ self.new.faults }
+    {
         self.asked = self.asked.saturating_add(1);
         if !self.slots.has_standing(name) {
             return Err(ShelfFault::NoSuch);
@@ -70,7 +87,21 @@ impl Shelf for MemShelf {
         self.slots.take(name).ok_or(ShelfFault::NoSuch)
     }
 
-    fn make(&mut self, alloc: Global, name: &[u8], blocks: u32) -> Result<MemDisk, ShelfFault> {
+    /// Fails exactly where the name is not there and this call is one of those that are to fail.
+    fn make(&mut self, alloc: Global, name: &[u8], blocks: u32) -> Result<MemDisk, ShelfFault>
+        ensures exists { IsErrOf result ShelfFault.Exists ↔ IsTrue (is_there (place_in self.old.slots name.now)) }
+        ensures failed { IsErrOf result ShelfFault.Failed ↔ IsTrue (fails_make self.old name.now) }
+        ensures made { IfOk result (λ disk. disk ≡ fresh_disk (replicate blocks (replicate 4096 0)) self.old.calls) }
+        ensures zero { IfOk result (λ disk. disk.content ≡ replicate blocks (replicate 4096 0)) }
+        ensures settled { IfOk result (λ disk. held_loose disk ≡ none_loose) }
+        ensures out { OnOk result (place_in self.new.slots name.now ≡ Out) }
+        ensures others { (other : List ℕ) → other ≢ name.now → place_in self.new.slots other ≡ place_in self.old.slots other }
+        ensures kept { OnErr result (place_in self.new.slots name.now ≡ place_in self.old.slots name.now) }
+        ensures after { self.new ≡ record (after_ask (fails_make self.old name.now) self.old) { slots = self.new.slots } }
+        ensures old_alone { IsErrOf result ShelfFault.NoSuch → ⊥ }
+        ensures counted { IsErrOf result ShelfFault.Failed → Rose self.old.faults self.new.faults }
+        ensures never_falls { self.old.faults ≤ self.new.faults }
+    {
         self.asked = self.asked.saturating_add(1);
         if self.slots.has(name) {
             return Err(ShelfFault::Exists);
@@ -84,7 +115,13 @@ impl Shelf for MemShelf {
         Ok(disk)
     }
 
-    fn close(&mut self, name: &[u8], disk: MemDisk) {
+    fn close(&mut self, name: &[u8], disk: MemDisk)
+        requires { place_in self.old.slots name.now ≡ Out }
+        ensures stands { place_in self.new.slots name.now ≡ Standing disk }
+        ensures others { (other : List ℕ) → other ≢ name.now → place_in self.new.slots other ≡ place_in self.old.slots other }
+        ensures after { self.new ≡ record self.old { slots = self.new.slots } }
+        ensures faults { self.new.faults ≡ self.old.faults }
+    {
         self.slots.put(name, disk);
     }
 
@@ -100,7 +137,7 @@ mod tests {
 
     #[test]
     fn opens_what_was_closed(rt: HostRuntime) -> Result<(), Fail> {
-        let mut shelf = MemShelf::new(rt.alloc(), 1, &[3])?;
+        let mut shelf = MemShelf::new(rt.alloc(), 1, &[3, 5])?;
         assert!(rt; matches!(shelf.open(rt.alloc(), b"a"), Err(ShelfFault::NoSuch)));
         let mut block = Block::zero(rt.alloc())?;
         block.put(0, &[7]);
@@ -110,9 +147,11 @@ mod tests {
         }
         assert!(rt; matches!(shelf.make(rt.alloc(), b"b", 2), Err(ShelfFault::Failed)));
         assert!(rt; matches!(shelf.make(rt.alloc(), b"a", 2), Err(ShelfFault::Exists)));
+        assert!(rt; matches!(shelf.open(rt.alloc(), b"a"), Err(ShelfFault::Failed)));
         let mut back = Block::zero(rt.alloc())?;
         match shelf.open(rt.alloc(), b"a") {
             Ok(mut disk) => {
+                assert!(rt; disk.blocks() == 2);
                 assert_eq!(rt; disk.read(1, &mut back), Ok(()));
                 assert_eq!(rt;
                     disk.write(1, &back),

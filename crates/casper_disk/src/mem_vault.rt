@@ -1,21 +1,24 @@
-ghost use Rattle.std.specs.Prelude.{◌≡◌, ℕ, ◌^◌, ◌<◌, Bool, true, List, All, None, length, map, is_some, replicate, IfOk, OnOk, refl};
+ghost use Rattle.std.specs.Prelude.{◌≡◌, ℕ, [], ◌^◌, ◌<◌, Bool, true, List, All, None, length, map, is_some, replicate, IfOk, OnOk, refl};
+ghost use Rattle.std.proofs.Common.{inl};
 ghost use Rattle.casper_space.specs.Changes.{with_changes};
 ghost use Rattle.casper_disk.specs.Vault.{Saved, changes_of};
-ghost use Rattle.casper_disk.specs.MemVault.{words_in, is_held, held_image, held_saved};
-ghost use Rattle.casper_disk.specs.VaultLaws.{image_count, page_filled, never_in_doubt};
+ghost use Rattle.casper_disk.specs.MemVault.{words_in, is_held, held_image, held_saved, saved_since};
+ghost use Rattle.casper_disk.specs.VaultLaws.{image_count, page_filled, never_in_doubt, only_saved_now, since_earlier};
 
+use crate::past::Past;
 use crate::{CommitFault, DiskFault, LAST_VERSION, Vault};
 use casper_words::{Frame, Memory, Page};
 use std::alloc::Global;
 use std::marker::Model;
 
-/// A vault in memory, which tells its image. It has no room, no fault and no doubt. A page takes memory when it is first
-/// committed.
+/// A vault in memory, which tells its image, and what it was before each commit. It has no room, no fault and no doubt. A page takes
+/// memory when it is first committed.
 #[derive(Drop)]
 pub struct MemVault {
     frames: Vec<Option<Frame>>,
     blank: Frame,
     version: u64,
+    past: Past,
 }
 
 impl Model for MemVault {
@@ -24,7 +27,7 @@ impl Model for MemVault {
 
     ghost Value = { HeldPages };
 
-    ghost view = { λ own. record { pages = map words_in own.frames.items; version = own.version } };
+    ghost view = { λ own. record { pages = map words_in own.frames.items; version = own.version; past = own.past.saved } };
 
     ghost invariant = { λ own. IsHeldVault own.frames.items own.blank own.version };
 }
@@ -89,6 +92,7 @@ impl MemVault {
         ensures image { IfOk result (λ vault. held_image vault ≡ replicate pages (replicate 512 0)) }
         ensures version { IfOk result (λ vault. vault.version ≡ 1) }
         ensures size { IfOk result (λ vault. length vault.pages ≡ pages) }
+        ensures past { IfOk result (λ vault. vault.past ≡ []) }
     {
         let blank = Frame::zero(alloc)?;
         let mut frames = Vec::with_capacity(alloc, pages as usize)?;
@@ -99,6 +103,7 @@ impl MemVault {
             frames,
             blank,
             version: 1,
+            past: Past::new(),
         })
     }
 }
@@ -118,9 +123,9 @@ impl Vault for MemVault {
 
     ghost images_now = { λ vault saved. saved ≡ held_saved vault };
 
-    ghost moment = { λ _. 0 };
+    ghost moment = { λ vault. length vault.past };
 
-    ghost images_since = { λ vault _ saved. saved ≡ held_saved vault };
+    ghost images_since = { saved_since };
 
     ghost faults = { λ _. 0 };
 
@@ -152,6 +157,7 @@ impl Vault for MemVault {
         if self.version == LAST_VERSION {
             return Err(CommitFault::Worn);
         }
+        self.past = self.past.then(&self.frames, self.version);
         put_all(&mut self.frames, changes);
         self.version += 1;
         Ok(self.version)
@@ -171,9 +177,11 @@ impl Vault for MemVault {
 
     ghost leaves_one = { λ vault told. (held_saved vault, refl) };
 
-    ghost now_counts = { λ vault past saved told early now. now };
+    ghost now_counts = { λ vault past saved told early now. inl now };
 
-    ghost only_now = { λ vault saved told since. since };
+    ghost only_now = { λ vault saved told since. only_saved_now vault saved since };
+
+    ghost earlier_counts = { λ vault earlier later saved told order since. since_earlier vault earlier later saved order since };
 }
 
 #[cfg(test)]
@@ -181,6 +189,9 @@ mod tests {
     use super::*;
     use std::process::Abort;
     use std::test::Fail;
+
+    /// Takes what may go to another thread.
+    fn hand_over<V: Vault + Drop + Send>(_vault: V) {}
 
     /// The first word of a page.
     fn first_word(rt: &impl Abort, vault: &mut MemVault, page: u32, into: &mut Frame) -> u64 {
@@ -209,6 +220,7 @@ mod tests {
                 "page {page}"
             );
         }
+        hand_over(vault);
         Ok(())
     }
 }

@@ -1,6 +1,6 @@
-ghost use Rattle.std.specs.Prelude.{◌≡◌, ◌≤◌, [], is_err, OnOk, OnErr};
+ghost use Rattle.std.specs.Prelude.{◌≡◌, ◌≤◌, is_err, OnOk, OnErr};
 ghost use Rattle.casper_words.specs.Count.{Rose};
-ghost use Rattle.casper_disk.specs.Plan.{count_of, counted, with_fault, fails_next, armed_with};
+ghost use Rattle.casper_disk.specs.Plan.{count_of, counted, with_fault, fails_next, armed_with, unplanned};
 
 use crate::{DiskFault, Fail, Kind};
 use casper_words::Memory;
@@ -34,7 +34,7 @@ impl Model for Plan {
 impl Plan {
     /// No call was made, and none is to fail.
     pub(crate) fn new(alloc: Global) -> Plan
-        ensures { result ≡ record { fails = []; reads = 0; writes = 0; syncs = 0; faults = 0 } }
+        ensures { result ≡ unplanned }
     {
         Plan {
             fails: Vec::new(alloc),
@@ -75,7 +75,7 @@ impl Plan {
         let number = self.count(kind).saturating_add(1);
         self.fails
             .iter()
-            .any(|fail| fail.kind.is(kind) && fail.number == number)
+            .any(|fail| fail.kind == kind && fail.number == number)
     }
 
     /// Counts a call.

@@ -44,10 +44,9 @@ impl From<Memory> for CommitFault {
 ///
 /// A stop, at any moment and within a call too, leaves an image with its version. Where a commit failed so that a stop may leave
 /// it done or not done, its changes are in doubt until a settle answers Ok, and the image is the one without them. A vault may
-/// tell its image, its room, the changes in doubt and what a stop leaves, or tell nothing of them. It counts its faults, up to
-/// `u64::MAX`.
+/// tell its image, the changes in doubt and what a stop leaves, or tell nothing of them. It counts its faults, up to `u64::MAX`.
 pub trait Vault {
-    // Whether vaults of this type tell their image, their room, the changes in doubt and what a stop leaves.
+    // Whether vaults of this type tell their image, the changes in doubt and what a stop leaves.
     ghost tells: { Bool };
 
     // The number of pages.
@@ -97,7 +96,7 @@ pub trait Vault {
         ensures version { version self.new ≡ version self.old }
         ensures doubtful { is_some (doubt self.new) ≡ is_some (doubt self.old) }
         ensures image { IsTrue tells → image self.new ≡ image self.old }
-        ensures room { IsTrue tells → room self.new ≡ room self.old }
+        ensures room { room self.new ≡ room self.old }
         ensures doubt { IsTrue tells → doubt self.new ≡ doubt self.old }
         ensures images { IsTrue tells →
             Adds (moment self.old) (moment self.new) (images_since self.old) (images_since self.new) (images_now self.old) }
@@ -114,16 +113,16 @@ pub trait Vault {
         ensures answer { IfOk result (λ number. number ≡ version self.new) }
         ensures version { OnOk result (version self.new ≡ version_after (changes_of changes.now) (version self.old)) }
         ensures image { IsTrue tells → OnOk result (image self.new ≡ with_changes (image self.old) (changes_of changes.now)) }
-        ensures room { IsTrue tells → OnOk result (room self.new ≡ room_with (changes_of changes.now) (room self.old)) }
+        ensures room { OnOk result (room self.new ≡ room_with (changes_of changes.now) (room self.old)) }
         ensures doubtful { IsErrOf result CommitFault.Doubt ↔ IsSome (doubt self.new) }
         ensures doubt { IsTrue tells → IsErrOf result CommitFault.Doubt → doubt self.new ≡ Some (changes_of changes.now) }
         ensures same_version { OnErr result (version self.new ≡ version self.old) }
         ensures same_image { IsTrue tells → OnErr result (image self.new ≡ image self.old) }
-        ensures same_room { IsTrue tells → OnErr result (room self.new ≡ room self.old) }
+        ensures same_room { OnErr result (room self.new ≡ room self.old) }
         ensures size { size self.new ≡ size self.old }
         ensures worn { IsErrOf result CommitFault.Memory
             ⊎ (IsErrOf result CommitFault.Worn ↔ IsTrue (is_worn (changes_of changes.now) (version self.old))) }
-        ensures full { IsTrue tells → IsErrOf result CommitFault.Memory ⊎ IsErrOf result CommitFault.Worn
+        ensures full { IsErrOf result CommitFault.Memory ⊎ IsErrOf result CommitFault.Worn
             ⊎ ((need free : ℕ) → IsErrOf result (CommitFault.Full need free)
             ↔ (lacking (changes_of changes.now) (room self.old) ≡ Some (record { need = need; free = free }))) }
         ensures unchanged { length changes.now ≡ 0 → IsOkUnless result CommitFault.Memory }
@@ -151,7 +150,7 @@ pub trait Vault {
         ensures same_doubt { IsTrue tells → OnErr result (doubt self.new ≡ doubt self.old) }
         ensures same_version { OnErr result (version self.new ≡ version self.old) }
         ensures same_image { IsTrue tells → OnErr result (image self.new ≡ image self.old) }
-        ensures same_room { IsTrue tells → OnErr result (room self.new ≡ room self.old) }
+        ensures same_room { OnErr result (room self.new ≡ room self.old) }
         ensures size { size self.new ≡ size self.old }
         ensures counted { OnErr result (Rose (faults self.old) (faults self.new)) }
         ensures never_falls { faults self.old ≤ faults self.new }
@@ -184,4 +183,8 @@ pub trait Vault {
     /// Since now there is only what a stop now may leave.
     ghost only_now: { (vault : Self) (saved : Saved) → IsTrue tells → images_since vault (moment vault) saved →
         images_now vault saved };
+
+    /// What a stop since some moment might have left is among what one since an earlier moment might have left.
+    ghost earlier_counts: { (vault : Self) (earlier later : ℕ) (saved : Saved) → IsTrue tells → earlier ≤ later →
+        images_since vault later saved → images_since vault earlier saved };
 }

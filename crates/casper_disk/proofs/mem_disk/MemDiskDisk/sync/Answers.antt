@@ -1,4 +1,6 @@
-use Rattle.std.proofs.Common.{◌<◌, length, ap, arith, length-append}
+use Rattle.std.proofs.Common.{◌<◌, length, refl, ap, arith, length-append}
+use Rattle.casper_disk.specs.declared.step.Step.TheVariants as step
+use Rattle.casper_disk.proofs.CallLemmas.{step_keeps}
 use Rattle.casper_disk.proofs.RecordLemmas.{none_marked, synced_loose, unsynced_loose, synced_elapses, unsynced_elapses, refused_elapses}
 use Rattle.casper_disk.proofs.mem_disk.MemDiskDisk.sync.Goals as goal
 
@@ -30,3 +32,9 @@ returns-clause-images c =
     rw (← c.self.view_is)
     (synced_elapses c.self.inside.steps.items c.push_reserved-2.new.self.items c.self.inside.blocks.items c.self.inside.marks.items c.push_reserved-2.ensures.items
     (none_marked c.self.inside.marks.items (length c.self.inside.blocks.items) (c.self.invariant.unmarked some)))
+
+pub returns-then-fails-clause-record : goal.returns-then-fails-clause-record
+returns-then-fails-clause-record c = rw (← c.self.view_is) (step_keeps _ _ step.Unsynced c.push_reserved.ensures.items refl)
+
+pub returns-clause-record : goal.returns-clause-record
+returns-clause-record c = rw (← c.self.view_is) (step_keeps _ _ step.Synced c.push_reserved-2.ensures.items refl)

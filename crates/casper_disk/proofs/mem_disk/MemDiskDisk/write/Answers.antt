@@ -1,7 +1,9 @@
 use Rattle.std.proofs.Common.{◌≡◌, ◌<◌, true, length, set, refl, ◌∙◌, ap, arith, [], length-append}
 use Rattle.std.proofs.lemmas.List.{get_or_read}
 use Rattle.casper_disk.specs.MemDisk.{Held}
-use Rattle.casper_disk.proofs.RecordLemmas.{none_marked, wrote_loose, missed_loose, missed_elapses, wrote_elapses}
+use Rattle.casper_disk.specs.declared.step.Step.TheVariants as step
+use Rattle.casper_disk.proofs.CallLemmas.{step_keeps}
+use Rattle.casper_disk.proofs.RecordLemmas.{none_marked, wrote_loose, missed_loose, missed_elapses, wrote_elapses, written_back}
 use Rattle.casper_disk.proofs.mem_disk.MemDiskDisk.write.Goals as goal
 
 pub returns-in_default-clause-loose : goal.returns-in_default-clause-loose
@@ -33,3 +35,12 @@ returns-clause-images c =
     c.self.inside.marks.items c.args.at c.copy_from.new.self c.copy_from-2.new.self c.push_reserved.ensures.items
     (c.copy_from.ensures.same ∙ get_or_read c.self.inside.blocks.items c.args.at c.index_mut-block.result.now within c.index_mut-block.ensures.value []) refl
     (none_marked c.self.inside.marks.items (length c.self.inside.blocks.items) (c.self.invariant.unmarked some)))
+
+pub returns-clause-record : goal.returns-clause-record
+returns-clause-record c =
+    let size : length c.self.inside.blocks.items ≡ length c.args.self.now.content = ap (λ (disk : Held). length disk.content) c.self.view_is in
+    let within : c.args.at < length c.self.inside.blocks.items = omega arith in
+    rw (← c.self.view_is)
+    (step_keeps _ _ (step.Wrote c.args.at c.copy_from.new.self) c.push_reserved.ensures.items
+    (written_back c.self.inside.blocks.items c.args.at c.copy_from-2.new.self c.copy_from.new.self
+    (c.copy_from.ensures.same ∙ get_or_read c.self.inside.blocks.items c.args.at c.index_mut-block.result.now within c.index_mut-block.ensures.value [])))

@@ -1,9 +1,9 @@
-use Rattle.std.proofs.Common.{◌≡◌, ◌+◌, ◌∙◌, sym, ap, length, arith, inr}
+use Rattle.std.proofs.Common.{◌≡◌, ◌+◌, ◌++◌, ◌∙◌, ℕ, Option, List, [], ◌∷◌, sym, ap, length, map}
 use Rattle.std.proofs.lemmas.Bool.{eqb-false}
 use Rattle.casper_space.specs.Changes.{with_changes}
-use Rattle.casper_disk.specs.Vault.{changes_of, version_after}
-use Rattle.casper_disk.specs.MemVault.{HeldPages, held_image}
-use Rattle.casper_disk.proofs.VaultLemmas.{image_after, saved_after, version_risen}
+use Rattle.casper_disk.specs.Vault.{Saved, changes_of, version_after}
+use Rattle.casper_disk.specs.MemVault.{HeldPages, words_in, whole, saved_of, held_image, held_saved}
+use Rattle.casper_disk.proofs.VaultLemmas.{image_after, saved_after, noted_adds, version_risen}
 use Rattle.casper_disk.proofs.mem_vault.MemVaultVault.commit.Goals as goal
 
 pub returns-clause-image : goal.returns-clause-image
@@ -19,9 +19,13 @@ returns-clause-images c told =
     let some = eqb-false (length changes) 0 (sym c.if-is_empty.ensures) in
     let risen : c.self.inside.version + 1 ≡ version_after (changes_of changes) old.version =
     ap (λ (vault : HeldPages). vault.version + 1) c.self.view_is ∙ sym (version_risen changes old.version some) in
-    record {
-      later = omega arith;
-      only = λ moment saved early since. inr since;
-      agrees = λ saved since.
-          saved_after (held_image old) _ (changes_of changes) old.version _ (c.self.inside.version + 1) saved (returns-clause-image c told) risen since;
-    }
+    let frames = c.hold_all.new.frames.items in
+    let after : HeldPages = record { pages = map words_in c.put_all.new.frames.items; version = c.self.inside.version + 1; past = c.then-self-inside.result.saved } in
+    let was : saved_of frames c.self.inside.version ≡ held_saved old =
+    ap (λ (pages : List (List ℕ)). record { image = map whole pages; version = c.self.inside.version }) c.hold_all.ensures.same ∙ ap held_saved c.self.view_is in
+    let noted : after.past ≡ old.past ++ held_saved old ∷ [] = c.then-self-inside.ensures
+    ∙ ap (λ (one : Saved). c.self.inside.past.saved ++ one ∷ [])
+    (ap (λ (held : List (Option (List ℕ))). saved_of held c.self.inside.version) c.deref.ensures.value ∙ was)
+    ∙ ap (λ (vault : HeldPages). vault.past ++ held_saved old ∷ []) c.self.view_is in
+    noted_adds old after (changes_of changes) (version_after (changes_of changes) old.version) noted
+    (λ saved is. saved_after (held_image old) _ (changes_of changes) old.version _ (c.self.inside.version + 1) saved (returns-clause-image c told) risen is)

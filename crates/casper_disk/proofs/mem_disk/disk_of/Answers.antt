@@ -1,7 +1,7 @@
 use Rattle.std.proofs.Common.{rules, ◌≡◌, ◌∙◌, ap, [], List, false, replicate, length}
 use Rattle.casper_disk.specs.declared.step.Step.{Step}
 use Rattle.casper_disk.proofs.RecordLemmas.{fresh_loose, loose_with}
-use Rattle.casper_disk.proofs.mem_disk.holding.Goals as goal
+use Rattle.casper_disk.proofs.mem_disk.disk_of.Goals as goal
 
 pub returns-clause-loose : goal.returns-clause-loose
 returns-clause-loose c =
