@@ -67,6 +67,7 @@ impl<const N: usize> Rec<N> {
         ensures values { values_of self.now into.new ≡ values.now }
         ensures others { (place : ℕ) → IsOutside self.now place → slice_index into.new place ≡ slice_index into.old place }
     {
+        // Before any field is written the proof wants to know that the block has 4,096 bytes.
         let _whole = into.bytes();
         for_each_field!(self, |place, field| {
             write_field(field, values[place], into);
