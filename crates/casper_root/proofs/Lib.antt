@@ -2,3 +2,9 @@ pub mod BlockLemmas
 pub mod RefusalLemmas
 pub mod OpeningLemmas
 pub mod FormatLemmas
+pub mod ChoiceLemmas
+pub mod RootLemmas
+pub mod OpeningLawsLemmas
+pub mod WrittenLemmas
+pub mod NextBodyLemmas
+pub mod WritingLemmas

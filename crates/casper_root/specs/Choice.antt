@@ -25,6 +25,6 @@ of_slot slot.B in_a in_b = in_b
 
 -- the gate of the slot is open, no open gate has a greater sequence number, and B has the greater one where both are open
 pub record IsCurrent (gate_a gate_b seq_a seq_b : ℕ) (current : Slot) : Type 0 where
-  pub open_now : of_slot current gate_a gate_b ≡ 165
-  pub greatest : (other : Slot) → of_slot other gate_a gate_b ≡ 165 → of_slot other seq_a seq_b ≤ of_slot current seq_a seq_b
-  pub first_of_equal : current ≡ slot.B → gate_a ≡ 165 → seq_a < seq_b
+  pub open_now : of_slot current gate_a gate_b ≡ open_byte
+  pub greatest : (other : Slot) → of_slot other gate_a gate_b ≡ open_byte → of_slot other seq_a seq_b ≤ of_slot current seq_a seq_b
+  pub first_of_equal : current ≡ slot.B → gate_a ≡ open_byte → seq_a < seq_b

@@ -1,8 +1,12 @@
 pub mod Added
 pub mod Choice
+pub mod Fitting
 pub mod Format
 pub mod FormatLaws
 pub mod Opening
+pub mod OpeningLaws
 pub mod Reading
 pub mod Refusal
 pub mod Slots
+pub mod Spare
+pub mod WritingLaws

@@ -11,3 +11,8 @@ body_place slot.B = 3
 abbrev pub gate_place : Slot → ℕ
 gate_place slot.A = 2
 gate_place slot.B = 4
+
+-- the other slot, that of the spare root
+abbrev pub other_slot : Slot → Slot
+other_slot slot.A = slot.B
+other_slot slot.B = slot.A

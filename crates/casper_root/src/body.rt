@@ -9,7 +9,9 @@ use casper_words::Block;
 /// What a root says: its sequence number and the frame numbers of its map blocks.
 #[derive(Clone, Copy, Debug, PartialEq, Eq)]
 pub struct Body {
+    /// The sequence number, from 1 to 281,474,976,710,655.
     pub seq: u64,
+    /// The frame number of each map block, 0xFFFF_FFFF where it has no frame.
     pub maps: Maps,
 }
 

@@ -7,7 +7,9 @@ use casper_words::Block;
 /// The sizes of a store.
 #[derive(Clone, Copy, Debug, PartialEq, Eq)]
 pub struct Header {
+    /// How many pages, from 1 to 16,384.
     pub pages: u32,
+    /// How many frames, from 2 to 65,536.
     pub frames: u32,
 }
 

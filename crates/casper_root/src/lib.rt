@@ -19,7 +19,7 @@ mod writing;
 pub use body::Body;
 pub use fault::OpenFault;
 pub use header::Header;
-pub use laws::format_laws;
+pub use laws::{format_laws, opening_laws, writing_laws};
 pub use maps::Maps;
 pub use opening::open_roots;
 pub use pair::{Pair, read_pair};

@@ -1,7 +1,8 @@
-ghost use Rattle.std.specs.Prelude.{◌≡◌, ◌≤◌, not, Err, IsTrue, IfOk};
+ghost use Rattle.std.specs.Prelude.{◌≡◌, ◌≤◌, ◌+◌, not, Err, IsTrue, IfOk};
 ghost use Rattle.casper_words.specs.Count.{Rose};
 ghost use Rattle.casper_root.specs.Opening.{opened, as_body, body_refusals, current_root, header_of, header_refusals, is_digit, root_refusals};
 ghost use Rattle.casper_root.specs.Choice.{is_open};
+ghost use Rattle.casper_root.specs.Fitting.{AreSizes, Fits};
 ghost use Rattle.casper_root.specs.Reading.{IsOnlyRead};
 ghost use Rattle.casper_root.specs.Refusal.{first_refusal, Answers};
 
@@ -9,17 +10,15 @@ use crate::found::{Found, FoundBody, read_found};
 use crate::slot::OPEN;
 use crate::tables::header_rec;
 use crate::{Body, Header, Maps, OpenFault, Roots, Slot, pick};
-use casper_disk::Disk;
+use casper_disk::{Disk, LAST_VERSION};
 use casper_words::Block;
 use std::alloc::Global;
-
-/// The greatest sequence number of a root.
-const MOST_SEQ: u64 = 281_474_976_710_655;
 
 /// Reads the header and the current root of a store. It reads the header, the two gates and the two bodies, in this
 /// order, and changes nothing of the disk.
 pub fn open_roots<D: Disk>(alloc: Global, disk: &mut D) -> Result<Roots, OpenFault>
     ensures roots { IsTrue D.tells → Answers result (opened (D.content disk.old)) }
+    ensures fits { IfOk result (Fits (D.size disk.old)) }
     ensures size { D.size disk.new ≡ D.size disk.old }
     ensures read { IsTrue D.tells → IsOnlyRead D.content D.loose D.moment D.images_since disk.old disk.new }
     ensures counted { result ≡ Err OpenFault.Disk → Rose (D.faults disk.old) (D.faults disk.new) }
@@ -42,7 +41,7 @@ pub fn open_roots<D: Disk>(alloc: Global, disk: &mut D) -> Result<Roots, OpenFau
 
 fn header_from(block: &Block) -> Result<Header, OpenFault>
     ensures header { result ≡ first_refusal (header_refusals block.now) (header_of block.now) }
-    ensures sizes { IfOk result (λ header. (header.pages ≤ 16384) × (header.frames ≤ 65536)) }
+    ensures sizes { IfOk result AreSizes }
 {
     let bytes = block.bytes();
     let (tens, ones) = (bytes[6], bytes[7]);
@@ -68,8 +67,10 @@ fn is_decimal(byte: u8) -> bool
 }
 
 fn root_from(header: Header, found: &Found) -> Result<Roots, OpenFault>
-    requires { header.pages ≤ 16384 }
-    ensures { result ≡ first_refusal (root_refusals header found.now) (current_root header found.now) }
+    requires { AreSizes header }
+    ensures root { result ≡ first_refusal (root_refusals header found.now) (current_root header found.now) }
+    ensures header { IfOk result (λ roots. roots.header ≡ header) }
+    ensures fits { IfOk result (Fits (5 + header.frames)) }
 {
     match pick(
         found.gate_a,
@@ -84,16 +85,18 @@ fn root_from(header: Header, found: &Found) -> Result<Roots, OpenFault>
 }
 
 fn root_in(header: Header, slot: Slot, body: &FoundBody, spare: u8) -> Result<Roots, OpenFault>
-    requires { header.pages ≤ 16384 }
-    ensures { result ≡ first_refusal (body_refusals header.pages body.now)
+    requires { AreSizes header }
+    ensures root { result ≡ first_refusal (body_refusals header.pages body.now)
         (record { header = header; slot = slot; body = as_body body.now; spare_closed = not (is_open spare) }) }
+    ensures header { IfOk result (λ roots. roots.header ≡ header) }
+    ensures fits { IfOk result (Fits (5 + header.frames)) }
 {
     let FoundBody {
         seq,
         count,
         numbers,
     } = *body;
-    if seq < 1 || seq > MOST_SEQ || count != header.pages.div_ceil(1024) {
+    if seq < 1 || seq > LAST_VERSION || count != header.pages.div_ceil(1024) {
         return Err(OpenFault::BadBody { seq, count });
     }
     let Some(maps) = Maps::new(&numbers[..count as usize]) else {

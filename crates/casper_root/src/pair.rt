@@ -10,9 +10,13 @@ use casper_words::Block;
 /// The first bytes of the two gates and the sequence numbers of the two bodies.
 #[derive(Clone, Copy, Debug, PartialEq, Eq)]
 pub struct Pair {
+    /// The first byte of gate A.
     pub gate_a: u8,
+    /// The first byte of gate B.
     pub gate_b: u8,
+    /// The sequence number of body A.
     pub seq_a: u64,
+    /// The sequence number of body B.
     pub seq_b: u64,
 }
 

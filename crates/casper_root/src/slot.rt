@@ -1,5 +1,6 @@
 ghost use Rattle.std.specs.Prelude.{◌≡◌, ◌≢◌, ◌↔◌, ◌<◌, None, IfSome};
 ghost use Rattle.casper_root.specs.Choice.{current_slot, IsCurrent};
+ghost use Rattle.casper_root.specs.Format.{open_byte};
 ghost use Rattle.casper_root.specs.Slots.{body_place, gate_place};
 
 /// One of the two places of a root: A has its body in block 1 and its gate in block 2, B in blocks 3 and 4.
@@ -41,7 +42,7 @@ pub(crate) const OPEN: u8 = 0xA5;
 pub fn pick(gate_a: u8, gate_b: u8, seq_a: u64, seq_b: u64) -> Option<Slot>
     ensures slot { result ≡ current_slot gate_a gate_b seq_a seq_b }
     ensures current { IfSome result (IsCurrent gate_a gate_b seq_a seq_b) }
-    ensures none { (result ≡ None) ↔ ((gate_a ≢ 165) × (gate_b ≢ 165)) }
+    ensures none { (result ≡ None) ↔ ((gate_a ≢ open_byte) × (gate_b ≢ open_byte)) }
 {
     match (gate_a == OPEN, gate_b == OPEN) {
         (false, false) => None,

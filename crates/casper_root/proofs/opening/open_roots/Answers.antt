@@ -36,4 +36,4 @@ returns-clause-roots g c told =
     let enough : 5 ≤ length blocks = omega arith in
     let room : 5 + c.in_ok-header.header.frames ≤ length blocks = omega arith in
     inl (decided_root blocks (g.D.Disk.content c.read.new.self) c.read.new.into c.header_from.result c.in_ok-header.header c.in_ok-found.found c.root_from.result
-    enough (c.in_ok-read.ensures.block told) c.header_from.ensures.header c.in_ok-header.was room (c.in_ok-read.ensures.content told) (c.in_ok-found.ensures.found told) c.root_from.ensures)
+    enough (c.in_ok-read.ensures.block told) c.header_from.ensures.header c.in_ok-header.was room (c.in_ok-read.ensures.content told) (c.in_ok-found.ensures.found told) c.root_from.ensures.root)
