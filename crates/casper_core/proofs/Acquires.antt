@@ -26,7 +26,7 @@ use Rattle.casper_core.specs.Acting.{Leaves, Holds}
 use Rattle.casper_core.specs.Loading.{OnlyLoads, LoadFails, AreStored}
 use Rattle.casper_core.proofs.Loads.{shows_loaded, apart_loaded, owns_loaded, right_loaded, stored_loaded, loads_again, found_among, found_some, is_unframed}
 use Rattle.casper_hub.proofs.Relying.{apart_again}
-use Rattle.casper_core.proofs.Witness.{some_shared, some_shows}
+use Rattle.casper_hub.proofs.Witness.{some_shared, some_shows}
 
 -- A turn leaves the capacity of its client's cache.
 

@@ -10,7 +10,7 @@ use Rattle.casper_disk.specs.Vault.{page_at}
 use Rattle.casper_cache.specs.Own as cache
 use Rattle.casper_model.specs.Own as machine
 use Rattle.casper_model.specs.Shared.{new_shared}
-use Rattle.casper_model.specs.State.{start}
+use Rattle.casper_model.specs.State.{start, own_at}
 use Rattle.casper_model.proofs.RunHistory.{start_history}
 use Rattle.casper_model.proofs.RoomRuns.{every_run_room}
 use Rattle.casper_hub.specs.HubView.{is_live, page_count}
@@ -18,6 +18,7 @@ use Rattle.casper_hub.specs.Shows.{Shows}
 use Rattle.casper_hub.specs.Sound.{IsSound as Whole}
 use Rattle.casper_hub.specs.Words.{FramesAreRight}
 use Rattle.casper_core.specs.CoreView.{CoreView, cache_at}
+use Rattle.casper_core.specs.Shaped.{HasShapeOf}
 use Rattle.casper_core.specs.Sound.{IsSound}
 use Rattle.casper_core.specs.Stands.{own_part, Stands}
 
@@ -44,14 +45,20 @@ module _ {V : Type 0} (core : CoreView V) (whole : Whole core.hub) (empty : core
     sure = sure;
   }
 
+  owns_new : (limit who : ℕ) → who < 33 → own_at (start core.told core.size limit core.capacity) who ≡ own_part core.capacity who (cache_at core who)
+  owns_new limit who below =
+      get_or-map-range_with_len (λ one. machine.blank one core.capacity) 0 33 who who (machine.blank who 0) below (omega arith)
+      ∙ ap (own_part core.capacity who) (sym (none_at who))
+
+  pub shape_new : (limit : ℕ) → Shows (new_shared core.size limit) core.hub → HasShapeOf (start core.told core.size limit core.capacity) core
+  shape_new limit shows = record { shared = shows; places = refl; owns = owns_new limit }
+
   pub stands_new : (limit : ℕ) → Shows (new_shared core.size limit) core.hub → ((base : List (List ℕ)) → FramesAreRight base core.hub) → core.hub.trail ≡ []
       → ((page : ℕ) → page < core.size → length (page_at core.told.image page) ≡ 512) → Stands (start core.told core.size limit core.capacity) core
   stands_new limit shows frames trail filled = record {
     parts = record {
       shared = shows;
-      owns = λ who below.
-          get_or-map-range_with_len (λ one. machine.blank one core.capacity) 0 33 who who (machine.blank who 0) below (omega arith)
-          ∙ ap (own_part core.capacity who) (sym (none_at who));
+      owns = owns_new limit;
       finished = refl;
       vault = refl;
       frames = frames core.told.image;

@@ -7,8 +7,11 @@ use Rattle.casper_cache.specs.Own as cache
 use Rattle.casper_model.specs.declared.reply.Reply.{Reply}
 use Rattle.casper_model.specs.declared.reply.Reply.TheVariants as reply
 use Rattle.casper_model.specs.Answers.{of_reply}
+use Rattle.casper_model.specs.Hits.{can_hit}
 use Rattle.casper_model.specs.Outside.{Outside, NothingFailed, LoadFailed}
+use Rattle.casper_model.specs.Shared.{fallen_at}
 use Rattle.casper_model.specs.State.{State, with_own}
+use Rattle.casper_model.specs.Step.{read_turn}
 use Rattle.casper_model.specs.Turn.{Turn}
 use Rattle.casper_model.specs.CallStep.{acquire_step, hit_behind, call_by, call_step, is_granted}
 use Rattle.casper_model.specs.Own as machine
@@ -17,9 +20,13 @@ use Rattle.casper_hub.specs.HubView.{HubView}
 use Rattle.casper_hub.specs.Owned.{Owns, own_of}
 use Rattle.casper_hub.specs.Sound.{IsSound}
 use Rattle.casper_hub.specs.Words.{CacheIsRight}
+use Rattle.casper_laws.proofs.AnswerLaws.{acquired_has}
+use Rattle.casper_laws.proofs.AnswerLawsCalls.{can_with}
 use Rattle.casper_hub.proofs.Relying.{apart_itself}
+use Rattle.casper_hub.proofs.Witness.{some_shared, some_shows}
 use Rattle.casper_core.specs.Acting.{outside_of, IsPart, Gives, Holds, Leaves}
 use Rattle.casper_core.specs.Loading.{LoadFails, Acquired}
+use Rattle.casper_core.specs.Shaped.{IsShape, read_with}
 use Rattle.casper_core.proofs.MachineTurns.{called_gives, gives_by, gives_again, acquired_gives, failed_gives}
 use Rattle.casper_core.proofs.HitTurns.{Sees}
 
@@ -34,6 +41,9 @@ sees_part who image state hub own part owns client = record {
   client = client;
   sound = owns.sound;
 }
+
+pub shape_of_part : (who : ℕ) (image : List (List ℕ)) (state : State) (hub : HubView) (own : cache.Own) → IsPart who image state hub own → IsShape who state hub own
+shape_of_part who image state hub own part = record { shared = part.shared; place = part.place; part = part.part }
 
 -- behind a turn of a client that leaves it its cache
 pub sees_behind : (who : ℕ) (tells : Bool) (image : List (List ℕ)) (state : State) (hub : HubView) (own : cache.Own) (turn : Turn) (answer : Answer) (after : HubView) (own_after : cache.Own)
@@ -62,53 +72,51 @@ module _ (who : ℕ) (want : Want) (hit : State → Option Turn) (state : State)
       ap (call_by state who want outside hit) is ∙ ap (hit_behind hit (acquire_step state who (want ∷ []) 1 outside)) test
 
   -- the acquire was refused
-  pub call_refused : (image : List (List ℕ)) (hub : HubView) (own : cache.Own) (one : Reply) (after : HubView) (own_after : cache.Own) → hit state ≡ None
-      → IsPart who image state hub own → Acquired hub own (want ∷ []) 1 (Some one) after own_after → own_after.client ≡ who → is_granted (of_reply one) ≡ false
+  pub call_refused : (hub : HubView) (own : cache.Own) (one : Reply) (after : HubView) (own_after : cache.Own) → hit state ≡ None
+      → IsShape who state hub own → Acquired hub own (want ∷ []) 1 (Some one) after own_after → own_after.client ≡ who → is_granted (of_reply one) ≡ false
       → Gives who state (call_step state who want NothingFailed hit) (of_reply one) after (own_of own_after)
-  call_refused image hub own one after own_after is part acquired client refused =
-      let gives = acquired_gives who image state hub own (want ∷ []) 1 one after own_after part acquired client in
+  call_refused hub own one after own_after is shape acquired client refused =
+      let gives = acquired_gives who state hub own (want ∷ []) 1 one after own_after shape acquired client in
       gives_by who state (call_step state who want NothingFailed hit) (acquire_step state who (want ∷ []) 1 NothingFailed) (of_reply one) after (own_of own_after)
       (missed NothingFailed false is (ap is_granted (sym gives.answers) ∙ refused)) gives
 
   -- a page could not be read
-  pub call_failed : (image : List (List ℕ)) (hub : HubView) (own : cache.Own) (after : HubView) (own_after : cache.Own) → hit state ≡ None
-      → IsPart who image state hub own → LoadFails hub own (want ∷ []) 1 after own_after
+  pub call_failed : (hub : HubView) (own : cache.Own) (after : HubView) (own_after : cache.Own) → hit state ≡ None
+      → IsShape who state hub own → LoadFails hub own (want ∷ []) 1 after own_after
       → Gives who state (call_step state who want LoadFailed hit) answer.Disk after (own_of own_after)
-  call_failed image hub own after own_after is part fails =
-      let gives = failed_gives who image state hub own (want ∷ []) 1 after own_after part fails in
+  call_failed hub own after own_after is shape fails =
+      let gives = failed_gives who state hub own (want ∷ []) 1 after own_after shape fails in
       gives_by who state (call_step state who want LoadFailed hit) (acquire_step state who (want ∷ []) 1 LoadFailed) answer.Disk after (own_of own_after)
       (missed LoadFailed false is (ap (λ (turn : Turn). is_granted turn.answer) gives.0)) gives.1
 
   -- the acquire was granted, and the call is a hit then
-  pub call_granted : (tells : Bool) (image : List (List ℕ)) (hub : HubView) (own : cache.Own) (one : Reply) (after : HubView) (own_after : cache.Own) (answer : Answer) (own_hit : cache.Own) → hit state ≡ None
-      → IsTrue tells → IsPart who image state hub own → Acquired hub own (want ∷ []) 1 (Some one) after own_after → one ≡ reply.Granted
-      → Holds who tells image hub own after own_after → own_hit.client ≡ who
-      → ((behind : State) → Sees who behind after own_after → hit behind ≡ Some (record { answer = answer; state = with_own behind (own_of own_hit) }))
+  pub call_granted : (hub : HubView) (own : cache.Own) (one : Reply) (after : HubView) (own_after : cache.Own) (answer : Answer) (own_hit : cache.Own) → hit state ≡ None
+      → IsShape who state hub own → Acquired hub own (want ∷ []) 1 (Some one) after own_after → one ≡ reply.Granted
+      → own_after.client ≡ who → own_hit.client ≡ who
+      → (Gives who state (acquire_step state who (want ∷ []) 1 NothingFailed) (of_reply one) after (own_of own_after)
+      → hit (acquire_step state who (want ∷ []) 1 NothingFailed).state
+      ≡ Some (record { answer = answer; state = with_own (acquire_step state who (want ∷ []) 1 NothingFailed).state (own_of own_hit) }))
       → Gives who state (call_step state who want NothingFailed hit) answer after (own_of own_hit)
-  call_granted tells image hub own one after own_after answer own_hit is told part acquired granted holds client hits =
+  call_granted hub own one after own_after answer own_hit is shape acquired granted client_after client hits =
       let turn = acquire_step state who (want ∷ []) 1 NothingFailed in
-      let gives = acquired_gives who image state hub own (want ∷ []) 1 one after own_after part acquired holds.client in
-      let sees = sees_behind who tells image state hub own turn (of_reply one) after own_after told part gives holds in
-      let called = called_gives who turn.state (own_of own_hit) answer after client sees.place sees.shared in
+      let gives = acquired_gives who state hub own (want ∷ []) 1 one after own_after shape acquired client_after in
+      let place = subst (λ count. who < count) (sym gives.places) shape.place in
+      let called = called_gives who turn.state (own_of own_hit) answer after client place gives.shared in
       let last : Turn = record { answer = answer; state = with_own turn.state (own_of own_hit) } in
       gives_by who state (call_step state who want NothingFailed hit) last answer after (own_of own_hit)
       (missed NothingFailed true is (ap is_granted (sym gives.answers) ∙ ap (λ (r : Reply). is_granted (of_reply r)) granted)
-      ∙ ap (λ found. unwrap_or found turn) (hits turn.state sees))
+      ∙ ap (λ found. unwrap_or found turn) (hits gives))
       (gives_again who state turn last (of_reply one) answer after after (own_of own_after) (own_of own_hit) gives called)
 
-  -- the acquire was granted, and the call is no hit even then
-  pub call_missed : (tells : Bool) (image : List (List ℕ)) (hub : HubView) (own : cache.Own) (one : Reply) (after : HubView) (own_after : cache.Own) → hit state ≡ None
-      → IsTrue tells → IsPart who image state hub own → Acquired hub own (want ∷ []) 1 (Some one) after own_after → one ≡ reply.Granted
-      → Holds who tells image hub own after own_after → ((behind : State) → Sees who behind after own_after → hit behind ≡ None)
-      → Gives who state (call_step state who want NothingFailed hit) answer.Granted after (own_of own_after)
-  call_missed tells image hub own one after own_after is told part acquired granted holds misses =
-      let turn = acquire_step state who (want ∷ []) 1 NothingFailed in
-      let gives = acquired_gives who image state hub own (want ∷ []) 1 one after own_after part acquired holds.client in
-      let sees = sees_behind who tells image state hub own turn (of_reply one) after own_after told part gives holds in
-      gives_by who state (call_step state who want NothingFailed hit) turn answer.Granted after (own_of own_after)
-      (missed NothingFailed true is (ap is_granted (sym gives.answers) ∙ ap (λ (r : Reply). is_granted (of_reply r)) granted)
-      ∙ ap (λ found. unwrap_or found turn) (misses turn.state sees))
-      (subst (λ said. Gives who state turn said after (own_of own_after)) (ap of_reply granted) gives)
+-- behind an acquire of a page that was granted the call can be made
+pub granted_can : (hub : HubView) (own : cache.Own) (want : Want) (one : Reply) (after : HubView) (own_after : cache.Own) → one ≡ reply.Granted → IsSound hub
+    → Acquired hub own (want ∷ []) 1 (Some one) after own_after → can_hit (own_of own_after) want.page want.right ≡ true
+granted_can hub own want one after own_after granted sound acquired =
+    let shared = some_shared hub in
+    let shown = some_shows hub sound in
+    let turn = acquired.0 in
+    subst (λ (part : machine.Own). can_hit part want.page want.right ≡ true) (sym (turn.owns shared shown))
+    (can_with _ want (acquired_has shared (own_of own) (want ∷ []) 1 (fallen_at shared (own_of own).who) (ap of_reply (sym (turn.replies shared shown) ∙ granted))))
 
 -- what a hit leaves of the hub, and what it leaves the client
 pub leaves_hit : (who : ℕ) (tells : Bool) (image : List (List ℕ)) (hub : HubView) (own : cache.Own) → IsSound hub → Leaves who tells image hub own hub
@@ -155,3 +163,17 @@ pub as_answered : (who : ℕ) (state : State) (turn : Outside → Turn) (one : R
 as_answered who state turn one said hub own tells is gives =
     subst (λ answer. Gives who state (turn (outside_of answer)) answer hub own) (sym is)
     (subst (λ disk. Gives who state (turn (cond disk LoadFailed NothingFailed)) (of_reply one) hub own) (sym tells) gives)
+
+-- a read that was answered with a reply of its acquire is the machine's
+pub read_refused : (who page word : ℕ) (state : State) (one : Reply) (said : Answer) → said ≡ of_reply one → read_with who page word said state ≡ read_turn who page word (outside_of said) state
+read_refused who page word state one said is =
+    subst (λ answer. read_with who page word answer state ≡ read_turn who page word (outside_of answer) state) (sym is) (plain one)
+  where
+    plain : (one : Reply) → read_with who page word (of_reply one) state ≡ read_turn who page word (outside_of (of_reply one)) state
+    plain reply.Granted = refl
+    plain (reply.Pending blockers) = refl
+    plain (reply.Frozen lead) = refl
+    plain reply.InDoubt = refl
+    plain (reply.RolledBack mark recorded unrecorded) = refl
+    plain (reply.TrailFull entries) = refl
+    plain (reply.Load page marks) = refl

@@ -24,13 +24,14 @@ use Rattle.casper_core.specs.ClientTurns.{IsTurnOf, client_turn}
 use Rattle.casper_core.specs.CoreView.{CoreView, cache_at}
 use Rattle.casper_core.specs.Loading.{OnlyLoads}
 use Rattle.casper_core.specs.Placing.{placed}
+use Rattle.casper_core.specs.Shaped.{Makes, HasShapeOf, IsMade, StepsInShape, read_with, client_turn_with, step_with}
 use Rattle.casper_core.specs.Sound.{IsSound}
 use Rattle.casper_core.specs.Stands.{own_part, HasPartsOf, Stands}
 use Rattle.casper_core.specs.Stepping.{Steps}
 use Rattle.casper_core.proofs.Loads.{shows_loaded}
-use Rattle.casper_core.proofs.MachineTurns.{same_gives}
-use Rattle.casper_core.proofs.Places.{sound_placed, parts_placed, stable_stays}
-use Rattle.casper_core.proofs.StepParts.{passed_by, refused_by, live_where, answered_same, placed_again, right_again, client_answered}
+use Rattle.casper_core.proofs.MachineTurns.{same_gives, gives_by}
+use Rattle.casper_core.proofs.Places.{sound_placed, parts_placed, shape_placed, stable_stays}
+use Rattle.casper_core.proofs.StepParts.{passed_by, refused_by, live_where, answered_same, made_same, shape_at, placed_again, right_again, client_answered}
 
 -- A turn of a client that keeps its cache, in a core.
 
@@ -136,14 +137,55 @@ is_absent who (event.Depart other) is outside state gone = absurd is
 is_absent who (event.Vanish other) is outside state gone = absurd is
 is_absent who (event.Lose other) is outside state gone = absurd is
 
+-- the same of an event that was answered
+pub is_turn_with : (who : ℕ) (one : Event) → IsTurnOf who one → (said : Answer) (state : State) → is_live state.shared who ≡ true → step_with state one said ≡ client_turn_with who one said state
+is_turn_with who (event.Join other) is said state live = absurd is
+is_turn_with who (event.Read other page word) is said state live =
+    ap (λ number. step_with state (event.Read number page word) said) is
+    ∙ passed_by (is_live state.shared who) answer.Absent state (within (is_in_range page word) (read_with who page word said)) live
+is_turn_with who (event.Write other page word value) is said state live = is_turn who (event.Write other page word value) is (outside_of said) state live
+is_turn_with who (event.Acquire other wants) is said state live = is_turn who (event.Acquire other wants) is (outside_of said) state live
+is_turn_with who (event.Serve other) is said state live = is_turn who (event.Serve other) is (outside_of said) state live
+is_turn_with who (event.Stabilise other) is said state live = absurd is
+is_turn_with who (event.WriteOut lead) is said state live = absurd is
+is_turn_with who (event.Finish lead) is said state live = absurd is
+is_turn_with who event.Settle is said state live = absurd is
+is_turn_with who (event.Depart other) is said state live = absurd is
+is_turn_with who (event.Vanish other) is said state live = absurd is
+is_turn_with who (event.Lose other) is said state live = absurd is
+
+pub is_absent_with : (who : ℕ) (one : Event) → IsTurnOf who one → (said : Answer) (state : State) → is_live state.shared who ≡ false
+    → step_with state one said ≡ record { answer = answer.Absent; state = state }
+is_absent_with who (event.Join other) is said state gone = absurd is
+is_absent_with who (event.Read other page word) is said state gone =
+    ap (λ number. step_with state (event.Read number page word) said) is
+    ∙ refused_by (is_live state.shared who) answer.Absent state (within (is_in_range page word) (read_with who page word said)) gone
+is_absent_with who (event.Write other page word value) is said state gone = is_absent who (event.Write other page word value) is (outside_of said) state gone
+is_absent_with who (event.Acquire other wants) is said state gone = is_absent who (event.Acquire other wants) is (outside_of said) state gone
+is_absent_with who (event.Serve other) is said state gone = is_absent who (event.Serve other) is (outside_of said) state gone
+is_absent_with who (event.Stabilise other) is said state gone = absurd is
+is_absent_with who (event.WriteOut lead) is said state gone = absurd is
+is_absent_with who (event.Finish lead) is said state gone = absurd is
+is_absent_with who event.Settle is said state gone = absurd is
+is_absent_with who (event.Depart other) is said state gone = absurd is
+is_absent_with who (event.Vanish other) is said state gone = absurd is
+is_absent_with who (event.Lose other) is said state gone = absurd is
+
 module _ {V : Type 0} (core : CoreView V) (at who : ℕ) (same : at ≡ who) (client : IsClient who) (sound : IsSound core) where
   -- the client is absent
   pub absent_turn : (one : Event) (caches : List (Option cache.Own)) → IsTurnOf who one → cache_at core who ≡ None → caches ≡ core.caches
       → Steps one answer.Absent core (record core { caches = caches })
   absent_turn one caches is none back state stands =
       answered_same state one answer.Absent core (record core { caches = caches }) (names who one is client) stands
-      (is_absent who one is NothingFailed state (live_where core who false state sound stands (ap is_some none)))
+      (is_absent who one is NothingFailed state (live_where core who false state sound stands.parts.shared (ap is_some none)))
       (subst (λ list. HasPartsOf state (record core { caches = list })) (sym back) stands.parts)
+
+  pub absent_made : (one : Event) (caches : List (Option cache.Own)) → IsTurnOf who one → cache_at core who ≡ None → caches ≡ core.caches
+      → StepsInShape one answer.Absent core (record core { caches = caches })
+  absent_made one caches is none back state shape =
+      made_same state one answer.Absent (record core { caches = caches })
+      (is_absent_with who one is answer.Absent state (live_where core who false state sound shape.shared (ap is_some none)))
+      (subst (λ list. HasShapeOf state (record core { caches = list })) (sym back) shape)
 
   -- a turn of a live client, in which the cache stays its own
   module _ (own : cache.Own) (found : cache_at core who ≡ Some own) (tells : Bool) (after : HubView) (own_after : cache.Own) (calls : ℕ) (vault : V) (size : ℕ) (told : VaultState)
@@ -159,8 +201,21 @@ module _ {V : Type 0} (core : CoreView V) (at who : ℕ) (same : at ≡ who) (cl
         subst (λ number. Steps one said core (placed core number after (Some own_after) calls vault size told)) (sym same)
         (client_answered core who own one said (client_turn who one) tells after own_after calls vault size told is_told sound client found (names who one is client)
         (λ state. stays_stable who one is (outside_of said) state)
-        (λ state stands. is_turn who one is (outside_of said) state (live_where core who true state sound stands (ap is_some found)))
+        (λ state stands. is_turn who one is (outside_of said) state (live_where core who true state sound stands.parts.shared (ap is_some found)))
         does leaves holds same_told)
+
+    pub turn_made : (one : Event) (said : Answer) → IsTurnOf who one → Makes who (client_turn_with who one) core.hub own said after own_after
+        → StepsInShape one said core (placed core at after (Some own_after) calls vault size told)
+    turn_made one said is makes state shape =
+        let here : step_with state one said ≡ client_turn_with who one said state =
+        is_turn_with who one is said state (live_where core who true state sound shape.shared (ap is_some found)) in
+        let gives : Gives who state (step_with state one said) said after (own_of own_after) =
+        gives_by who state (step_with state one said) (client_turn_with who one said state) said after (own_of own_after) here (makes state (shape_at core who own state client found shape)) in
+        subst (λ number. IsMade state one said (placed core number after (Some own_after) calls vault size told)) (sym same)
+        (record {
+          answers = gives.answers;
+          shape = shape_placed core who after (Some own_after) calls vault size told state (step_with state one said) said sound client shape gives;
+        })
 
     pub turn_unchanged : IsTrue tells → told ≡ core.told → OnlyLoads core.hub after → own_after ≡ own → (state : State) → Stands state core
         → Stands state (placed core at after (Some own_after) calls vault size told)

@@ -15,7 +15,7 @@ use Rattle.casper_model.specs.Both.{Both}
 use Rattle.casper_model.specs.Opening.{handed_in_to, begun, given_up, gathering_of}
 use Rattle.casper_model.specs.Leave.{depart, departed_by}
 use Rattle.casper_model.specs.Answers.{of_depart}
-use Rattle.casper_model.specs.State.{own_at}
+use Rattle.casper_model.specs.State.{State, own_at}
 use Rattle.casper_model.specs.Step.{step, depart_turn}
 use Rattle.casper_model.specs.Shared as shared_part
 use Rattle.casper_model.specs.Vault.{VaultState}
@@ -30,13 +30,14 @@ use Rattle.casper_hub.specs.Words.{FramesAreRight, CacheIsRight}
 use Rattle.casper_core.specs.Acting.{outside_of, Gives}
 use Rattle.casper_core.specs.CoreView.{CoreView, cache_at}
 use Rattle.casper_core.specs.Placing.{placed, IsPlaced}
+use Rattle.casper_core.specs.Shaped.{HasShapeOf, IsMade, StepsInShape}
 use Rattle.casper_core.specs.Sound.{IsSound}
 use Rattle.casper_core.specs.Stands.{own_part, HasPartsOf}
 use Rattle.casper_core.specs.Stepping.{IsAnswered, Steps}
 use Rattle.casper_core.proofs.MachineTurns.{turned_gives, gives_by}
-use Rattle.casper_core.proofs.Places.{sound_placed, parts_placed, stable_stays}
-use Rattle.casper_core.proofs.StepParts.{answered_by, answered_same, passed_by, refused_by, live_where, part_of}
-use Rattle.casper_core.proofs.Witness.{some_shared, some_shows}
+use Rattle.casper_core.proofs.Places.{sound_placed, parts_placed, shape_placed, stable_stays}
+use Rattle.casper_core.proofs.StepParts.{answered_by, answered_same, passed_by, refused_by, live_where, shape_of, shape_at, made_same}
+use Rattle.casper_hub.proofs.Witness.{some_shared, some_shows}
 
 -- A client departs from a core.
 
@@ -75,8 +76,14 @@ module _ {V : Type 0} (core : CoreView V) (at who : ℕ) (same : at ≡ who) (cl
   pub depart_absent : (caches : List (Option cache.Own)) → cache_at core who ≡ None → caches ≡ core.caches → Steps (event.Depart who) answer.Absent core (record core { caches = caches })
   depart_absent caches none back state stands =
       answered_same state (event.Depart who) answer.Absent core (record core { caches = caches }) client stands
-      (refused_by (shared_part.is_live state.shared who) answer.Absent state (depart_turn who) (live_where core who false state sound stands (ap is_some none)))
+      (refused_by (shared_part.is_live state.shared who) answer.Absent state (depart_turn who) (live_where core who false state sound stands.parts.shared (ap is_some none)))
       (subst (λ list. HasPartsOf state (record core { caches = list })) (sym back) stands.parts)
+
+  pub absent_depart_made : (caches : List (Option cache.Own)) → cache_at core who ≡ None → caches ≡ core.caches → StepsInShape (event.Depart who) answer.Absent core (record core { caches = caches })
+  absent_depart_made caches none back state shape =
+      made_same state (event.Depart who) answer.Absent (record core { caches = caches })
+      (refused_by (shared_part.is_live state.shared who) answer.Absent state (depart_turn who) (live_where core who false state sound shape.shared (ap is_some none)))
+      (subst (λ list. HasShapeOf state (record core { caches = list })) (sym back) shape)
 
   module _ (own : cache.Own) (found : cache_at core who ≡ Some own) (after : HubView) (own_after : cache.Own) (reply : Served) (turn : IsTurn depart reply core.hub own after own_after) where
     -- it has not fallen
@@ -102,23 +109,38 @@ module _ {V : Type 0} (core : CoreView V) (at who : ℕ) (same : at ≡ who) (cl
             subst (λ number. IsSound (placed core number after None calls vault size told)) (sym same)
             (sound_placed core who after None calls vault size told sound client left_place same_size sure)
 
+        depart_gives : (state : State) → HasShapeOf state core
+            → Gives who state (step state (event.Depart who) (outside_of (of_depart reply))) (of_depart reply) after (own_part core.capacity who None)
+        depart_gives state shape =
+            let said = of_depart reply in
+            let outside = outside_of said in
+            let kept = sound.kept who own found in
+            let blank : own_of own_after ≡ machine.blank who core.capacity =
+            turn.owns state.shared shape.shared
+            ∙ departed_own state.shared (own_of own) (up_shown state.shared core.hub own.client sound.hub shape.shared)
+            ∙ ap₂ machine.blank kept.client kept.capacity in
+            let here : step state (event.Depart who) outside ≡ depart_turn who state =
+            passed_by (shared_part.is_live state.shared who) answer.Absent state (depart_turn who) (live_where core who true state sound shape.shared (ap is_some found)) in
+            gives_by who state (step state (event.Depart who) outside) (depart_turn who state) said after (own_part core.capacity who None) here
+            (subst (λ one. Gives who state (depart_turn who state) said after one) blank
+            (turned_gives depart of_depart reply who state core.hub own after own_after (shape_at core who own state client found shape) turn client_after))
+
+        pub depart_made : StepsInShape (event.Depart who) (of_depart reply) core (placed core at after None calls vault size told)
+        depart_made state shape =
+            let said = of_depart reply in
+            let gives = depart_gives state shape in
+            subst (λ number. IsMade state (event.Depart who) said (placed core number after None calls vault size told)) (sym same)
+            (record {
+              answers = gives.answers;
+              shape = shape_placed core who after None calls vault size told state (step state (event.Depart who) (outside_of said)) said sound client shape gives;
+            })
+
         pub depart_steps : ((base : List (List ℕ)) → FramesAreRight base core.hub → CacheIsRight base core.hub own → FramesAreRight base after) → told ≡ core.told
             → Steps (event.Depart who) (of_depart reply) core (placed core at after None calls vault size told)
         depart_steps frames same_told state stands =
             let said = of_depart reply in
             let outside = outside_of said in
-            let part = part_of core who own state client found stands in
-            let kept = sound.kept who own found in
-            let blank : own_of own_after ≡ machine.blank who core.capacity =
-            turn.owns state.shared stands.parts.shared
-            ∙ departed_own state.shared (own_of own) (up_shown state.shared core.hub own.client sound.hub stands.parts.shared)
-            ∙ ap₂ machine.blank kept.client kept.capacity in
-            let here : step state (event.Depart who) outside ≡ depart_turn who state =
-            passed_by (shared_part.is_live state.shared who) answer.Absent state (depart_turn who) (live_where core who true state sound stands (ap is_some found)) in
-            let gives : Gives who state (step state (event.Depart who) outside) said after (own_part core.capacity who None) =
-            gives_by who state (step state (event.Depart who) outside) (depart_turn who state) said after (own_part core.capacity who None) here
-            (subst (λ one. Gives who state (depart_turn who state) said after one) blank
-            (turned_gives depart of_depart reply who core.told.image state core.hub own after own_after part turn client_after)) in
+            let gives = depart_gives state (shape_of state core stands) in
             subst (λ number. IsAnswered state (event.Depart who) said (placed core number after None calls vault size told)) (sym same)
             (answered_by state (event.Depart who) said core (placed core who after None calls vault size told) client stands gives.answers
             (parts_placed core who after None calls vault size told state (step state (event.Depart who) outside) said sound client left_place stands.parts gives

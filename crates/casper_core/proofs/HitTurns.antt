@@ -64,23 +64,38 @@ read_hits who state hub own page word value after sees can below is_value is_aft
     ∙ ap (λ hit. hit_turn state (answer.Value value) (cond hit (Some (with_call (own_of own) op.Read page word value)) None)) (can_read own page sees.sound can)
     ∙ ap (λ one. Some (record { answer = answer.Value value; state = with_own state one })) (sym (own_behind_read own page word value sees.sound) ∙ ap own_of (sym is_after))
 
-pub read_misses : (who : ℕ) (state : State) (hub : HubView) (own : cache.Own) (page word : ℕ) → Sees who state hub own → (cache.CanRead own page → ⊥)
+pub read_misses : (who : ℕ) (state : State) (hub : HubView) (own : cache.Own) (page word : ℕ) → own_at state who ≡ own_of own → cache.IsSound own → (cache.CanRead own page → ⊥)
     → read_hit state who page word ≡ None
-read_misses who state hub own page word sees cannot =
+read_misses who state hub own page word part sound cannot =
     let value = value_seen state who page word in
     ap (λ hit. hit_turn state (answer.Value value) (cond hit (Some (with_call (own_at state who) op.Read page word value)) None))
-    (ap (λ (one : machine.Own). can_hit one page may.Read) sees.part ∙ cannot_read own page sees.sound cannot)
+    (ap (λ (one : machine.Own). can_hit one page may.Read) part ∙ cannot_read own page sound cannot)
 
-pub write_hits : (who : ℕ) (state : State) (hub : HubView) (own : cache.Own) (page word value : ℕ) (after : cache.Own) → Sees who state hub own → cache.CanWrite own page
+-- a read hits with the word of its page, whatever that is
+pub read_hits_with : (who : ℕ) (state : State) (hub : HubView) (own : cache.Own) (page word value : ℕ) (after : cache.Own) → own_at state who ≡ own_of own → cache.IsSound own → cache.CanRead own page
+    → after ≡ cache.after_read own (record { op = op.Read; page = page; word = word; value = value })
+    → hit_turn state (answer.Value value) (hit_read (own_at state who) page word value) ≡ Some (record { answer = answer.Value value; state = with_own state (own_of after) })
+read_hits_with who state hub own page word value after part sound can is_after =
+    ap (λ (one : machine.Own). hit_turn state (answer.Value value) (hit_read one page word value)) part
+    ∙ ap (λ hit. hit_turn state (answer.Value value) (cond hit (Some (with_call (own_of own) op.Read page word value)) None)) (can_read own page sound can)
+    ∙ ap (λ one. Some (record { answer = answer.Value value; state = with_own state one })) (sym (own_behind_read own page word value sound) ∙ ap own_of (sym is_after))
+
+pub read_misses_with : (who : ℕ) (state : State) (hub : HubView) (own : cache.Own) (page word value : ℕ) → own_at state who ≡ own_of own → cache.IsSound own → (cache.CanRead own page → ⊥)
+    → hit_turn state (answer.Value value) (hit_read (own_at state who) page word value) ≡ None
+read_misses_with who state hub own page word value part sound cannot =
+    ap (λ hit. hit_turn state (answer.Value value) (cond hit (Some (with_call (own_at state who) op.Read page word value)) None))
+    (ap (λ (one : machine.Own). can_hit one page may.Read) part ∙ cannot_read own page sound cannot)
+
+pub write_hits : (who : ℕ) (state : State) (hub : HubView) (own : cache.Own) (page word value : ℕ) (after : cache.Own) → own_at state who ≡ own_of own → cache.IsSound own → cache.CanWrite own page
     → after ≡ cache.after_write own (record { op = op.Write; page = page; word = word; value = value })
     → write_hit state who page word value ≡ Some (record { answer = answer.Ok; state = with_own state (own_of after) })
-write_hits who state hub own page word value after sees can is_after =
-    ap (λ (one : machine.Own). hit_turn state answer.Ok (hit_write one page word value)) sees.part
-    ∙ ap (λ hit. hit_turn state answer.Ok (cond hit (Some (with_call (own_of own) op.Write page word value)) None)) (can_write own page sees.sound can)
-    ∙ ap (λ one. Some (record { answer = answer.Ok; state = with_own state one })) (sym (own_behind_write own page word value sees.sound) ∙ ap own_of (sym is_after))
+write_hits who state hub own page word value after part sound can is_after =
+    ap (λ (one : machine.Own). hit_turn state answer.Ok (hit_write one page word value)) part
+    ∙ ap (λ hit. hit_turn state answer.Ok (cond hit (Some (with_call (own_of own) op.Write page word value)) None)) (can_write own page sound can)
+    ∙ ap (λ one. Some (record { answer = answer.Ok; state = with_own state one })) (sym (own_behind_write own page word value sound) ∙ ap own_of (sym is_after))
 
-pub write_misses : (who : ℕ) (state : State) (hub : HubView) (own : cache.Own) (page word value : ℕ) → Sees who state hub own → (cache.CanWrite own page → ⊥)
+pub write_misses : (who : ℕ) (state : State) (hub : HubView) (own : cache.Own) (page word value : ℕ) → own_at state who ≡ own_of own → cache.IsSound own → (cache.CanWrite own page → ⊥)
     → write_hit state who page word value ≡ None
-write_misses who state hub own page word value sees cannot =
+write_misses who state hub own page word value part sound cannot =
     ap (λ hit. hit_turn state answer.Ok (cond hit (Some (with_call (own_at state who) op.Write page word value)) None))
-    (ap (λ (one : machine.Own). can_hit one page may.Write) sees.part ∙ cannot_write own page sees.sound cannot)
+    (ap (λ (one : machine.Own). can_hit one page may.Write) part ∙ cannot_write own page sound cannot)

@@ -30,12 +30,13 @@ use Rattle.casper_hub.proofs.Relying.{apart_itself}
 use Rattle.casper_core.specs.Acting.{outside_of, Gives}
 use Rattle.casper_core.specs.CoreView.{CoreView, cache_at}
 use Rattle.casper_core.specs.Placing.{placed, IsPlaced}
+use Rattle.casper_core.specs.Shaped.{HasShapeOf, IsMade, StepsInShape}
 use Rattle.casper_core.specs.Sound.{IsSound}
-use Rattle.casper_core.specs.Stands.{own_part, HasPartsOf, Stands}
+use Rattle.casper_core.specs.Stands.{own_part, HasPartsOf}
 use Rattle.casper_core.specs.Stepping.{IsAnswered, Steps}
 use Rattle.casper_core.proofs.MachineTurns.{moved_gives}
-use Rattle.casper_core.proofs.Places.{sound_placed, parts_placed}
-use Rattle.casper_core.proofs.StepParts.{answered_by}
+use Rattle.casper_core.proofs.Places.{sound_placed, parts_placed, shape_placed}
+use Rattle.casper_core.proofs.StepParts.{answered_by, shape_of, number_at}
 
 -- A client joins a core.
 
@@ -74,17 +75,17 @@ module _ {V : Type 0} (core : CoreView V) (who : ℕ) (client : IsClient who) (s
   }
 
   -- the join is refused
-  refused_gives : (why : JoinRefusal) (state : State) → IsJoin who (Err why) core.hub core.hub → Stands state core
+  refused_gives : (why : JoinRefusal) (state : State) → IsJoin who (Err why) core.hub core.hub → HasShapeOf state core
       → Gives who state (step state (event.Join who) (outside_of (of_join (Some why)))) (of_join (Some why)) core.hub (own_part core.capacity who (cache_at core who))
-  refused_gives why state is stands =
+  refused_gives why state is shape =
       let own = own_at state who in
       let turn = join state.shared own in
-      let number = stands.history.order.shaped.numbers who in
-      let reply : Some why ≡ turn.reply = is.replies state.shared own number stands.parts.shared in
+      let number = number_at core who state sound shape in
+      let reply : Some why ≡ turn.reply = is.replies state.shared own number shape.shared in
       let same : turn.own ≡ own = refused_same state.shared own why (sym reply) in
       let given = moved_gives who state turn.shared turn.own (of_join turn.reply) core.hub (ap (λ (one : machine.Own). one.who) same ∙ number)
-      (omega (arith, client.1, stands.history.order.shaped.owns)) (is.shows state.shared own number stands.parts.shared) in
-      let there : turn.own ≡ own_part core.capacity who (cache_at core who) = same ∙ stands.parts.owns who (omega (arith, client.1)) in
+      (omega (arith, client.1, shape.places)) (is.shows state.shared own number shape.shared) in
+      let there : turn.own ≡ own_part core.capacity who (cache_at core who) = same ∙ shape.owns who (omega (arith, client.1)) in
       subst (λ one. Gives who state (record { answer = of_join turn.reply; state = after_turn state turn }) (of_join (Some why)) core.hub one) there
       (subst (λ one. Gives who state (record { answer = of_join turn.reply; state = after_turn state turn }) one core.hub turn.own) (ap of_join (sym reply)) given)
 
@@ -92,13 +93,25 @@ module _ {V : Type 0} (core : CoreView V) (who : ℕ) (client : IsClient who) (s
   join_refused why after same is state stands =
       let said = of_join (Some why) in
       let here : IsJoin who (Err why) core.hub core.hub = subst (λ one. IsJoin who (Err why) core.hub one) same is in
-      let gives = refused_gives why state here stands in
+      let gives = refused_gives why state here (shape_of state core stands) in
       let parts = parts_placed core who core.hub (cache_at core who) core.calls core.vault core.size core.told state (step state (event.Join who) (outside_of said)) said sound client placed_same stands.parts
       gives (record { frames = stands.parts.frames; words = λ own found. stands.parts.words who own found })
       (ap stable_entries (step_adds state (event.Join who) (outside_of said))) refl in
       answered_by state (event.Join who) said core (record core { hub = after }) client stands gives.answers
       (subst (λ one. HasPartsOf (step state (event.Join who) (outside_of said)).state (record core { hub = one })) (sym same)
       (subst (λ caches. HasPartsOf (step state (event.Join who) (outside_of said)).state (record core { caches = caches })) (set-get_or core.caches who None) parts))
+
+  pub refused_made : (why : JoinRefusal) (after : HubView) → after ≡ core.hub → IsJoin who (Err why) core.hub after
+      → StepsInShape (event.Join who) (of_join (Some why)) core (record core { hub = after })
+  refused_made why after same is state shape =
+      let said = of_join (Some why) in
+      let gives = refused_gives why state (subst (λ one. IsJoin who (Err why) core.hub one) same is) shape in
+      record {
+        answers = gives.answers;
+        shape = subst (λ one. HasShapeOf (step state (event.Join who) (outside_of said)).state (record core { hub = one })) (sym same)
+            (subst (λ caches. HasShapeOf (step state (event.Join who) (outside_of said)).state (record core { caches = caches })) (set-get_or core.caches who None)
+            (shape_placed core who core.hub (cache_at core who) core.calls core.vault core.size core.told state (step state (event.Join who) (outside_of said)) said sound client shape gives));
+      }
 
   -- the client has joined, with a new cache
   module _ (after : HubView) (own : cache.Own) (own_is : own ≡ record { client = who; capacity = core.capacity; held = []; pending = []; cap = cap_in after who })
@@ -138,27 +151,36 @@ module _ {V : Type 0} (core : CoreView V) (who : ℕ) (client : IsClient who) (s
         subst (λ number. IsSound (placed core number after (Some own) core.calls core.vault core.size core.told)) (sym same)
         (sound_placed core who after (Some own) core.calls core.vault core.size core.told sound client placed_new refl sound.sure)
 
-    joined_gives : (state : State) → Stands state core → Gives who state (step state (event.Join who) (outside_of answer.Joined)) answer.Joined after (own_of own)
-    joined_gives state stands =
+    joined_gives : (state : State) → HasShapeOf state core → Gives who state (step state (event.Join who) (outside_of answer.Joined)) answer.Joined after (own_of own)
+    joined_gives state shape =
         let mine = own_at state who in
         let turn = join state.shared mine in
-        let number = stands.history.order.shaped.numbers who in
-        let reply : None ≡ turn.reply = joins.replies state.shared mine number stands.parts.shared in
+        let number = number_at core who state sound shape in
+        let reply : None ≡ turn.reply = joins.replies state.shared mine number shape.shared in
         let below : who < 33 = omega (arith, client.1) in
-        let capacity : mine.capacity ≡ core.capacity = ap (λ (one : machine.Own). one.capacity) (stands.parts.owns who below) ∙ capacity_at (cache_at core who) refl in
+        let capacity : mine.capacity ≡ core.capacity = ap (λ (one : machine.Own). one.capacity) (shape.owns who below) ∙ capacity_at (cache_at core who) refl in
         let same : turn.own ≡ own_of own =
-        joins.owns state.shared mine number stands.parts.shared
+        joins.owns state.shared mine number shape.shared
         ∙ ap (λ count. record (machine.blank who count) { cap = cap_in after who }) capacity
         ∙ ap own_of (sym own_is) in
         let given = moved_gives who state turn.shared turn.own (of_join turn.reply) after (ap (λ (one : machine.Own). one.who) same ∙ ap (λ (o : cache.Own). o.client) own_is)
-        (omega (arith, client.1, stands.history.order.shaped.owns)) (joins.shows state.shared mine number stands.parts.shared) in
+        (omega (arith, client.1, shape.places)) (joins.shows state.shared mine number shape.shared) in
         subst (λ one. Gives who state (record { answer = of_join turn.reply; state = after_turn state turn }) answer.Joined after one) same
         (subst (λ one. Gives who state (record { answer = of_join turn.reply; state = after_turn state turn }) one after turn.own) (ap of_join (sym reply)) given)
+
+    pub join_made : (at : ℕ) → at ≡ who → StepsInShape (event.Join who) answer.Joined core (placed core at after (Some own) core.calls core.vault core.size core.told)
+    join_made at same state shape =
+        let gives = joined_gives state shape in
+        subst (λ number. IsMade state (event.Join who) answer.Joined (placed core number after (Some own) core.calls core.vault core.size core.told)) (sym same)
+        (record {
+          answers = gives.answers;
+          shape = shape_placed core who after (Some own) core.calls core.vault core.size core.told state (step state (event.Join who) (outside_of answer.Joined)) answer.Joined sound client shape gives;
+        })
 
     pub join_steps : ((base : List (List ℕ)) → FramesAreRight base core.hub → FramesAreRight base after) → (at : ℕ) → at ≡ who
         → Steps (event.Join who) answer.Joined core (placed core at after (Some own) core.calls core.vault core.size core.told)
     join_steps frames at same state stands =
-        let gives = joined_gives state stands in
+        let gives = joined_gives state (shape_of state core stands) in
         subst (λ number. IsAnswered state (event.Join who) answer.Joined (placed core number after (Some own) core.calls core.vault core.size core.told)) (sym same)
         (answered_by state (event.Join who) answer.Joined core (placed core who after (Some own) core.calls core.vault core.size core.told) client stands gives.answers
         (parts_placed core who after (Some own) core.calls core.vault core.size core.told state (step state (event.Join who) (outside_of answer.Joined)) answer.Joined sound client placed_new stands.parts

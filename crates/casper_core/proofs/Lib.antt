@@ -2,6 +2,7 @@ pub mod Acquires
 pub mod Begins
 pub mod CallTurns
 pub mod CoreTurns
+pub mod DecidedTurns
 pub mod Departs
 pub mod Hits
 pub mod HitTurns
@@ -9,7 +10,7 @@ pub mod Joins
 pub mod Loads
 pub mod Places
 pub mod ReplayRuns
+pub mod ShapedRuns
 pub mod StepParts
 pub mod MachineTurns
 pub mod VaultReads
-pub mod Witness

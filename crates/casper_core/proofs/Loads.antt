@@ -1,4 +1,4 @@
-use Rattle.std.proofs.Common.{◌≡◌, ◌≤◌, ℕ, zero, suc, ◌+◌, List, [], ◌∷◌, Bool, true, false, cond, not, length, filter, refl, sym, ap, ◌∙◌, subst, ⊎_elim, arith, true≢false, append-nil}
+use Rattle.std.proofs.Common.{◌≡◌, ◌≤◌, ℕ, zero, suc, ◌+◌, List, [], ◌∷◌, Bool, true, false, cond, not, length, filter, refl, sym, ap, ◌∙◌, subst, ⊎_elim, arith, true≢false}
 use Rattle.std.specs.Prelude.{Option, Some, IsSome, is_some, is_none, find, Contains}
 use Rattle.std.specs.List.{list_any}
 use Rattle.casper_words.specs.declared.page.Want.{Want}
@@ -12,14 +12,12 @@ use Rattle.casper_hub.specs.Shows.{Shows}
 use Rattle.casper_hub.specs.Words.{CacheIsRight}
 use Rattle.casper_hub.specs.Apart.{Apart}
 use Rattle.casper_hub.specs.Turns.{IsTurn}
+use Rattle.casper_hub.proofs.Supplied.{with_frames, apart_but_frames}
 use Rattle.casper_model.specs.Own as machine
 use Rattle.casper_model.specs.Both.{Turned}
 use Rattle.casper_core.specs.Loading.{OnlyLoads, AreStored}
 
 -- What frames that were loaded leave: all but the frames.
-
-abbrev with_frames : HubView → List (Option (List ℕ)) → HubView
-with_frames hub frames = record hub { pages = record hub.pages { frames = frames } }
 
 -- what holds with any frames holds behind loads
 behind_loads : (P : HubView → Type 0) (hub after : HubView) → OnlyLoads hub after → ((frames : List (Option (List ℕ))) → P (with_frames hub frames)) → P after
@@ -60,21 +58,7 @@ owns_loaded hub after own loads owns =
     })
 
 pub apart_loaded : (who : ℕ) (hub after : HubView) → OnlyLoads hub after → Apart who hub after
-apart_loaded who hub after loads =
-    behind_loads (Apart who hub) hub after loads
-    (λ frames. record {
-      more = [];
-      trail = sym (append-nil hub.trail);
-      limit = refl;
-      pages = refl;
-      calls = refl;
-      live = refl;
-      cap = refl;
-      lost = λ fallen fell. fell;
-      asks = λ up. refl;
-      rights = λ up page. refl;
-      words = λ up base page word held. refl;
-    })
+apart_loaded who hub after loads = apart_but_frames who hub after loads.same
 
 pub right_loaded : (base : List (List ℕ)) (hub after : HubView) (own : cache.Own) → OnlyLoads hub after → CacheIsRight base hub own → CacheIsRight base after own
 right_loaded base hub after own loads right = behind_loads (λ one. CacheIsRight base one own) hub after loads (λ frames. right)

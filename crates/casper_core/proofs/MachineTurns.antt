@@ -18,8 +18,9 @@ use Rattle.casper_hub.specs.HubView.{HubView}
 use Rattle.casper_hub.specs.Owned.{own_of}
 use Rattle.casper_hub.specs.Shows.{Shows}
 use Rattle.casper_hub.specs.Turns.{IsTurn}
-use Rattle.casper_core.specs.Acting.{IsPart, Gives}
+use Rattle.casper_core.specs.Acting.{Gives}
 use Rattle.casper_core.specs.Loading.{LoadFails, Acquired}
+use Rattle.casper_core.specs.Shaped.{IsShape}
 use Rattle.casper_core.proofs.Loads.{shows_loaded}
 
 -- What a turn of the machine gives of the parts of a state.
@@ -77,10 +78,10 @@ gives_again who state first second answer behind hub after own own_after one two
 }
 
 -- a turn of the machine that a hub made
-pub turned_gives : {R : Type 0} (turn : Shared → machine.Own → Turned R) (told : R → Answer) (reply : R) (who : ℕ) (image : List (List ℕ)) (state : State) (hub : HubView) (own : cache.Own)
-    (after : HubView) (own_after : cache.Own) → IsPart who image state hub own → IsTurn turn reply hub own after own_after → own_after.client ≡ who
+pub turned_gives : {R : Type 0} (turn : Shared → machine.Own → Turned R) (told : R → Answer) (reply : R) (who : ℕ) (state : State) (hub : HubView) (own : cache.Own)
+    (after : HubView) (own_after : cache.Own) → IsShape who state hub own → IsTurn turn reply hub own after own_after → own_after.client ≡ who
     → Gives who state (record { answer = told (turn state.shared (own_at state who)).reply; state = after_turn state (turn state.shared (own_at state who)) }) (told reply) after (own_of own_after)
-turned_gives turn told reply who image state hub own after own_after part is client =
+turned_gives turn told reply who state hub own after own_after part is client =
     let turned = turn state.shared (own_of own) in
     let same : own_of own_after ≡ turned.own = is.owns state.shared part.shared in
     let given : Gives who state (record { answer = told turned.reply; state = after_turn state turned }) (told turned.reply) after turned.own =
@@ -92,21 +93,21 @@ turned_gives turn told reply who image state hub own after own_after part is cli
     (sym part.part) as_own
 
 -- an acquire that came to a reply
-pub acquired_gives : (who : ℕ) (image : List (List ℕ)) (state : State) (hub : HubView) (own : cache.Own) (wants : List Want) (calls : ℕ) (reply : Reply) (after : HubView) (own_after : cache.Own)
-    → IsPart who image state hub own → Acquired hub own wants calls (Some reply) after own_after → own_after.client ≡ who
+pub acquired_gives : (who : ℕ) (state : State) (hub : HubView) (own : cache.Own) (wants : List Want) (calls : ℕ) (reply : Reply) (after : HubView) (own_after : cache.Own)
+    → IsShape who state hub own → Acquired hub own wants calls (Some reply) after own_after → own_after.client ≡ who
     → Gives who state (acquire_step state who wants calls NothingFailed) (of_reply reply) after (own_of own_after)
-acquired_gives who image state hub own wants calls reply after own_after part is client =
-    turned_gives (λ shared own. acquire shared own wants calls) of_reply reply who image state hub own after own_after part is.0 client
+acquired_gives who state hub own wants calls reply after own_after part is client =
+    turned_gives (λ shared own. acquire shared own wants calls) of_reply reply who state hub own after own_after part is.0 client
 
 -- an acquire that met a failed load
 failed_by : (state : State) (turn : Turn) (failed : Bool) → failed ≡ true → unless_load_failed state failed turn ≡ record { answer = answer.Disk; state = state }
 failed_by state turn failed is = ap (λ b. unless_load_failed state b turn) is
 
-pub failed_gives : (who : ℕ) (image : List (List ℕ)) (state : State) (hub : HubView) (own : cache.Own) (wants : List Want) (calls : ℕ) (after : HubView) (own_after : cache.Own)
-    → IsPart who image state hub own → LoadFails hub own wants calls after own_after
+pub failed_gives : (who : ℕ) (state : State) (hub : HubView) (own : cache.Own) (wants : List Want) (calls : ℕ) (after : HubView) (own_after : cache.Own)
+    → IsShape who state hub own → LoadFails hub own wants calls after own_after
     → (acquire_step state who wants calls LoadFailed ≡ record { answer = answer.Disk; state = state })
     × Gives who state (acquire_step state who wants calls LoadFailed) answer.Disk after (own_of own_after)
-failed_gives who image state hub own wants calls after own_after part is =
+failed_gives who state hub own wants calls after own_after part is =
     let turned = acquire state.shared (own_at state who) wants calls in
     let granted : is_granted (of_reply turned.reply) ≡ true =
     ap (λ one. is_granted (of_reply (acquire state.shared one wants calls).reply)) part.part ∙ ap (λ one. is_granted (of_reply one)) (is.granted state.shared part.shared) in

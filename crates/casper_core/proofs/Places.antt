@@ -26,6 +26,7 @@ use Rattle.casper_core.specs.Acting.{Gives}
 use Rattle.casper_core.specs.CoreView.{CoreView, cache_at}
 use Rattle.casper_core.specs.Loading.{AreStored}
 use Rattle.casper_core.specs.Placing.{placed, IsPlaced, IsRight}
+use Rattle.casper_core.specs.Shaped.{HasShapeOf}
 use Rattle.casper_core.specs.Sound.{Keeps, IsSound}
 use Rattle.casper_core.specs.Stands.{own_part, HasPartsOf}
 
@@ -81,15 +82,23 @@ module _ {V : Type 0} (core : CoreView V) (who : ℕ) (hub : HubView) (place : O
   }
 
   module _ (state : State) (turn : Turn) (answer : Answer) where
-    owns_at : IsSound core → IsClient who → HasPartsOf state core → Gives who state turn answer hub (own_part core.capacity who place) → (other : ℕ) → other < 33 → (other ≡ who) ⊎ (other ≢ who)
+    owns_at : IsSound core → IsClient who → ((other : ℕ) → other < 33 → own_at state other ≡ own_part core.capacity other (cache_at core other)) → Gives who state turn answer hub (own_part core.capacity who place) → (other : ℕ) → other < 33 → (other ≡ who) ⊎ (other ≢ who)
         → own_at turn.state other ≡ own_part core.capacity other (cache_at (placed core who hub place calls vault size told) other)
-    owns_at sound client parts gives other below cases =
+    owns_at sound client owns gives other below cases =
         ⊎_elim
         (λ (same : other ≡ who).
         subst (λ number. own_at turn.state number ≡ own_part core.capacity number (cache_at (placed core who hub place calls vault size told) number)) (sym same)
         (gives.part ∙ ap (own_part core.capacity who) (sym (at_place sound client))))
-        (λ (away : other ≢ who). gives.others other away ∙ parts.owns other below ∙ ap (own_part core.capacity other) (sym (elsewhere other away)))
+        (λ (away : other ≢ who). gives.others other away ∙ owns other below ∙ ap (own_part core.capacity other) (sym (elsewhere other away)))
         cases
+
+    pub shape_placed : IsSound core → IsClient who → HasShapeOf state core → Gives who state turn answer hub (own_part core.capacity who place)
+        → HasShapeOf turn.state (placed core who hub place calls vault size told)
+    shape_placed sound client shape gives = record {
+      shared = gives.shared;
+      places = gives.places ∙ shape.places;
+      owns = λ other below. owns_at sound client shape.owns gives other below (cases_eq other who);
+    }
 
     words_at : IsSound core → IsClient who → IsPlaced who core hub place → HasPartsOf state core → IsRight state.base hub place → (other : ℕ) (own : cache.Own) → (other ≡ who) ⊎ (other ≢ who)
         → cache_at (placed core who hub place calls vault size told) other ≡ Some own → CacheIsRight state.base hub own
@@ -100,7 +109,7 @@ module _ {V : Type 0} (core : CoreView V) (who : ℕ) (hub : HubView) (place : O
         (λ (away : other ≢ who).
         let there = sym (elsewhere other away) ∙ found in
         let kept = sound.kept other own there in
-        right_while_apart state.base core.hub hub own is.sound kept.owns (subst (λ number. Apart number core.hub hub) (sym kept.client) (is.others other away)) (parts.words other own there))
+        right_while_apart state.base core.hub hub own kept.owns (subst (λ number. Apart number core.hub hub) (sym kept.client) (is.others other away)) (parts.words other own there))
         cases
 
     stored_at : IsClient who → IsPlaced who core hub place → HasPartsOf state core → Gives who state turn answer hub (own_part core.capacity who place)
@@ -116,7 +125,7 @@ module _ {V : Type 0} (core : CoreView V) (who : ℕ) (hub : HubView) (place : O
         → HasPartsOf turn.state (placed core who hub place calls vault size told)
     parts_placed sound client is parts gives right same same_told = record {
       shared = gives.shared;
-      owns = λ other below. owns_at sound client parts gives other below (cases_eq other who);
+      owns = λ other below. owns_at sound client parts.owns gives other below (cases_eq other who);
       finished = gives.unfinished ∙ parts.finished;
       vault = gives.vault ∙ parts.vault ∙ sym same_told;
       frames = subst (λ base. FramesAreRight base hub) (sym gives.base) right.frames;

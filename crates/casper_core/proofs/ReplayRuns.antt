@@ -1,14 +1,16 @@
-use Rattle.std.proofs.Common.{◌≡◌, ◌<◌, List, [], ◌∷◌, ◌++◌, true, true≢false, length, refl, sym, ap, ap₂, ◌∙◌, subst, arith}
-use Rattle.std.specs.Prelude.{IsTrue, slice_index_or, Result, Ok, Err, IsOk, OnOk}
+use Rattle.std.proofs.Common.{◌≡◌, ◌<◌, ◌≤◌, ◌+◌, ◌-◌, ◌^◌, ℕ, Bool, cond, false, List, [], ◌∷◌, ◌++◌, true, true≢false, length, refl, sym, ap, ap₂, ◌∙◌, subst, arith}
+use Rattle.std.specs.Prelude.{IsTrue, min, slice_index_or, Result, Ok, Err, IsOk, OnOk}
 use Rattle.std.proofs.lemmas.Bool.{and_from, and_parts}
+use Rattle.casper_words.specs.Count.{Rose}
 use Rattle.casper_space.specs.declared.answer.Answer.{Answer}
+use Rattle.casper_space.specs.declared.answer.Answer.TheVariants as answer
 use Rattle.casper_model.specs.declared.event.Event.{Event}
 use Rattle.casper_model.specs.State.{State}
 use Rattle.casper_model.specs.Step.{step}
-use Rattle.casper_model.specs.Run.{Happening, fits, all_fit, answers_of, state_after}
+use Rattle.casper_model.specs.Run.{Happening, is_disk, fits, all_fit, answers_of, state_after}
 use Rattle.casper_core.specs.CoreView.{CoreView}
 use Rattle.casper_core.specs.Stands.{Stands}
-use Rattle.casper_core.specs.Stepping.{Steps, Runs, happening_of, happenings_of}
+use Rattle.casper_core.specs.Stepping.{Steps, Runs, RoseBy, completes, counted, completed_in, failures_in, happening_of, happenings_of}
 
 -- A run of a core, step after step.
 
@@ -64,3 +66,40 @@ run_still events said core middle after runs still state stands =
 pub of_ok : {T E : Type 0} (result : Result T E) (P : Type 0) → IsOk result → OnOk result P → P
 of_ok (Ok x) P ok is = is
 of_ok (Err e) P ok is = absurd (true≢false (sym ok))
+
+-- how often a page could not be read, and how many calls were completed, with one more answer
+failures_more : (said : List Answer) (one : Answer) → failures_in (said ++ one ∷ []) ≡ failures_in said + cond (is_disk one) 1 0
+failures_more [] one = omega arith
+failures_more (first ∷ said) one = let rest = failures_more said one in omega (arith, rest)
+
+completed_more : (events : List Event) (said : List Answer) (one : Event) (last : Answer) → length said < length events → one ≡ slice_index_or events (length said) one
+    → completed_in events (said ++ last ∷ []) ≡ completed_in events said + cond (completes one last) 1 0
+completed_more [] said one last below is = absurd (omega (arith, below))
+completed_more (event ∷ events) [] one last below is = ap (λ e. cond (completes e last) 1 0 + 0) (sym is) ∙ omega arith
+completed_more (event ∷ events) (first ∷ said) one last below is =
+    let rest = completed_more events said one last (omega (arith, below)) is in omega (arith, rest)
+
+is_of_disk : (said : Answer) → is_disk said ≡ true → said ≡ answer.Disk
+is_of_disk answer.Disk is = refl
+is_of_disk other is = absurd (true≢false (sym is))
+
+rose_by : (failed : Bool) (count before middle now : ℕ) → RoseBy count before middle → middle ≤ now → (failed ≡ true → Rose middle now) → RoseBy (count + cond failed 1 0) before now
+rose_by true count before middle now is falls rose = let one = rose refl in omega (arith, is, one)
+rose_by false count before middle now is falls rose = omega (arith, is, falls)
+
+pub rose_more : (said : List Answer) (one : Answer) (before middle now : ℕ) → RoseBy (failures_in said) before middle → middle ≤ now → (one ≡ answer.Disk → Rose middle now)
+    → RoseBy (failures_in (said ++ one ∷ [])) before now
+rose_more said one before middle now is falls rose =
+    subst (λ count. RoseBy count before now) (sym (failures_more said one))
+    (rose_by (is_disk one) (failures_in said) before middle now is falls (λ disk. rose (is_of_disk one disk)))
+
+count_one : (completed : Bool) (before count : ℕ) → counted completed (min (before + count) (2 ^ 64 - 1)) ≡ min (before + (count + cond completed 1 0)) (2 ^ 64 - 1)
+count_one true before count = omega arith
+count_one false before count = omega arith
+
+pub count_more : (events : List Event) (said : List Answer) (one : Event) (last : Answer) (before middle now : ℕ) → length said < length events
+    → one ≡ slice_index_or events (length said) one → middle ≡ min (before + completed_in events said) (2 ^ 64 - 1) → now ≡ counted (completes one last) middle
+    → now ≡ min (before + completed_in events (said ++ last ∷ [])) (2 ^ 64 - 1)
+count_more events said one last before middle now below is middle_is now_is =
+    now_is ∙ ap (counted (completes one last)) middle_is ∙ count_one (completes one last) before (completed_in events said)
+    ∙ ap (λ count. min (before + count) (2 ^ 64 - 1)) (sym (completed_more events said one last below is))

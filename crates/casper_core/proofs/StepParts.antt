@@ -1,7 +1,8 @@
-use Rattle.std.proofs.Common.{◌≡◌, ◌<◌, ℕ, zero, List, [], ◌∷◌, Bool, true, false, cond, refl, sym, ap, ◌∙◌, subst, arith}
+use Rattle.std.proofs.Common.{◌≡◌, ◌<◌, ℕ, zero, List, [], ◌∷◌, Bool, true, false, cond, refl, sym, ap, ◌∙◌, subst, ⊎_elim, arith}
 use Rattle.std.specs.Prelude.{Option, None, Some, IsTrue, is_some, unwrap_or, nat_lt, Contains, MatchOption}
 use Rattle.std.specs.List.{list_all}
-use Rattle.std.proofs.lemmas.Bool.{and_from, lt-ltb}
+use Rattle.std.proofs.lemmas.Bool.{and_from, cases_lt, lt-ltb}
+use Rattle.std.proofs.lemmas.List.{get_or_past}
 use Rattle.casper_words.specs.declared.page.Want.{Want}
 use Rattle.casper_trail.proofs.LinkLists.{contains_there}
 use Rattle.casper_words.specs.Crew.{IsClient}
@@ -13,7 +14,8 @@ use Rattle.casper_model.specs.Client.{Client}
 use Rattle.casper_model.specs.Shared.{Shared, client_at, is_live}
 use Rattle.casper_model.specs.Outside.{Outside, NothingFailed, LoadFailed}
 use Rattle.casper_model.specs.Rights.{NamesClients}
-use Rattle.casper_model.specs.State.{State}
+use Rattle.casper_model.specs.State.{State, own_at}
+use Rattle.casper_model.specs.Own as machine
 use Rattle.casper_model.specs.Step.{step}
 use Rattle.casper_model.specs.Turn.{Turn, guarded}
 use Rattle.casper_model.specs.Run.{tells_of, is_disk}
@@ -34,6 +36,7 @@ use Rattle.casper_hub.specs.Shows.{Shows, ShowsClient}
 use Rattle.casper_core.specs.Acting.{outside_of, IsPart, Gives, Does, Leaves, Holds}
 use Rattle.casper_core.specs.CoreView.{CoreView, cache_at}
 use Rattle.casper_core.specs.Placing.{placed, IsPlaced, IsRight}
+use Rattle.casper_core.specs.Shaped.{IsShape, HasShapeOf, IsMade, step_with}
 use Rattle.casper_core.specs.Sound.{IsSound}
 use Rattle.casper_core.specs.Stands.{own_part, HasPartsOf, Stands}
 use Rattle.casper_core.specs.Stepping.{IsAnswered, Steps, HasLegalTrail}
@@ -60,9 +63,9 @@ live_place shared hub who (Some client) (Some shown) is = refl
 pub live_shown : (shared : Shared) (hub : HubView) (who : ℕ) → Shows shared hub → is_live shared who ≡ is_some (client_in hub who)
 live_shown shared hub who shows = live_place shared hub who (client_at shared who) (client_in hub who) (shows.clients who)
 
-pub live_where : {V : Type 0} (core : CoreView V) (who : ℕ) (live : Bool) (state : State) → IsSound core → Stands state core → is_some (cache_at core who) ≡ live
+pub live_where : {V : Type 0} (core : CoreView V) (who : ℕ) (live : Bool) (state : State) → IsSound core → Shows state.shared core.hub → is_some (cache_at core who) ≡ live
     → is_live state.shared who ≡ live
-live_where core who live state sound stands is = live_shown state.shared core.hub who stands.parts.shared ∙ sym (sound.live who) ∙ is
+live_where core who live state sound shows is = live_shown state.shared core.hub who shows ∙ sym (sound.live who) ∙ is
 
 -- an answer that is the machine's
 pub answered_by : {V : Type 0} (state : State) (event : Event) (said : Answer) (core after : CoreView V) → NamesClients event → Stands state core
@@ -190,6 +193,44 @@ answered_counted state event said core calls is = record {
   outside_fits = is.outside_fits;
   answers = is.answers;
   stands = stands_counted (step state event (outside_of said)).state core calls is.stands;
+}
+
+-- a state that a core stands for has its shape
+pub shape_of : {V : Type 0} (state : State) (core : CoreView V) → Stands state core → HasShapeOf state core
+shape_of state core stands = record { shared = stands.parts.shared; places = stands.history.order.shaped.owns; owns = stands.parts.owns }
+
+-- the part of a state that is a client's
+pub shape_at : {V : Type 0} (core : CoreView V) (who : ℕ) (own : cache.Own) (state : State) → IsClient who → cache_at core who ≡ Some own → HasShapeOf state core
+    → IsShape who state core.hub own
+shape_at core who own state client found shape = record {
+  shared = shape.shared;
+  place = omega (arith, client.1, shape.places);
+  part = shape.owns who (omega (arith, client.1)) ∙ ap (own_part core.capacity who) found;
+}
+
+-- the own part of a client has its number
+pub number_at : {V : Type 0} (core : CoreView V) (who : ℕ) (state : State) → IsSound core → HasShapeOf state core → (own_at state who).who ≡ who
+number_at core who state sound shape =
+    ⊎_elim (λ below. ap (λ (own : machine.Own). own.who) (shape.owns who below) ∙ by_place (cache_at core who) refl)
+    (λ past. ap (λ (own : machine.Own). own.who) (get_or_past state.owns who (machine.blank who 0) (omega (arith, past, shape.places)))) (cases_lt who 33)
+  where
+    by_place : (place : Option cache.Own) → cache_at core who ≡ place → (own_part core.capacity who place).who ≡ who
+    by_place None is = refl
+    by_place (Some own) is = (sound.kept who own is).client
+
+-- an answer where nothing has changed
+pub made_same : {V : Type 0} (state : State) (event : Event) (said : Answer) (after : CoreView V) → step_with state event said ≡ record { answer = said; state = state } → HasShapeOf state after
+    → IsMade state event said after
+made_same state event said after is shape = record {
+  answers = sym (ap (λ (turn : Turn). turn.answer) is);
+  shape = subst (λ (turn : Turn). HasShapeOf turn.state after) (sym is) shape;
+}
+
+-- the calls that were counted are no part of the shape
+pub made_counted : {V : Type 0} (state : State) (event : Event) (said : Answer) (core : CoreView V) (calls : ℕ) → IsMade state event said core → IsMade state event said (record core { calls = calls })
+made_counted state event said core calls is = record {
+  answers = is.answers;
+  shape = record { shared = is.shape.shared; places = is.shape.places; owns = is.shape.owns };
 }
 
 -- a page that nobody holds for writing

@@ -1,8 +1,10 @@
 pub mod Acting
 pub mod ClientTurns
 pub mod CoreView
+pub mod Decided
 pub mod Loading
 pub mod Placing
+pub mod Shaped
 pub mod Sound
 pub mod Stands
 pub mod Stepping

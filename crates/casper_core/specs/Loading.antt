@@ -21,6 +21,7 @@ pub record OnlyReads {V : Type 0} (tells : Bool) (size : V → ℕ) (image : V �
     (now : V → Saved → Type 0) (moment : V → ℕ) (since : V → ℕ → Saved → Type 0) (faults : V → ℕ) (before after : V) : Type 0 where
   pub same_size : size after ≡ size before
   pub same_version : version after ≡ version before
+  pub same_room : room after ≡ room before
   pub sure : doubt before ≡ None → doubt after ≡ None
   pub told : IsTrue tells → told_by image version room doubt after ≡ told_by image version room doubt before
   pub images : IsTrue tells → Adds (moment before) (moment after) (since before) (since after) (now before)

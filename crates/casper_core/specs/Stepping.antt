@@ -1,4 +1,4 @@
-use Rattle.std.specs.Prelude.{◌≡◌, ℕ, ◌+◌, ◌-◌, ◌^◌, min, List, [], ◌∷◌, Bool, true, false, IsTrue, Contains, ⊤}
+use Rattle.std.specs.Prelude.{◌≡◌, ℕ, ◌+◌, ◌-◌, ◌^◌, ◌≤◌, min, cond, List, [], ◌∷◌, Bool, true, false, IsTrue, Contains, ⊤}
 use Rattle.casper_space.specs.declared.answer.Answer.{Answer}
 use Rattle.casper_space.specs.declared.answer.Answer.TheVariants as answer
 use Rattle.casper_trail.specs.Legal.{IsLegal}
@@ -6,7 +6,7 @@ use Rattle.casper_model.specs.declared.event.Event.{Event}
 use Rattle.casper_model.specs.declared.event.Event.TheVariants as event
 use Rattle.casper_model.specs.State.{State}
 use Rattle.casper_model.specs.Step.{step}
-use Rattle.casper_model.specs.Run.{Happening, fits, all_fit, answers_of, state_after}
+use Rattle.casper_model.specs.Run.{Happening, is_disk, fits, all_fit, answers_of, state_after}
 use Rattle.casper_model.specs.WholeHistory.{whole_of}
 use Rattle.casper_core.specs.Acting.{outside_of}
 use Rattle.casper_core.specs.CoreView.{CoreView}
@@ -80,6 +80,21 @@ pub record IsRun {V : Type 0} (state : State) (events : List Event) (said : List
 -- so it is from each state that the core stood for
 abbrev pub Runs : {V : Type 0} → List Event → List Answer → CoreView V → CoreView V → Type 0
 Runs events said core after = (state : State) → Stands state core → IsRun state events said after
+
+-- how many calls were completed, by the answers to the first of some events
+abbrev pub completed_in : List Event → List Answer → ℕ
+completed_in events [] = 0
+completed_in [] (answer ∷ said) = 0
+completed_in (event ∷ events) (answer ∷ said) = cond (completes event answer) 1 0 + completed_in events said
+
+-- how many of these answers say that a page could not be read
+abbrev pub failures_in : List Answer → ℕ
+failures_in [] = 0
+failures_in (answer ∷ said) = cond (is_disk answer) 1 0 + failures_in said
+
+-- a count of faults rose by so many at least, or stands at the end of its type
+abbrev pub RoseBy : ℕ → ℕ → ℕ → Type 0
+RoseBy count before now = min (before + count) (2 ^ 64 - 1) ≤ now
 
 -- each of these events is built
 abbrev pub AreBuilt : List Event → Type 0

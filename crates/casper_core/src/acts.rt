@@ -6,9 +6,10 @@ ghost use Rattle.casper_model.specs.Turn.{within, is_in_range, are_in_range};
 ghost use Rattle.casper_hub.specs.HubView.{page_count};
 ghost use Rattle.casper_hub.specs.Owned.{Owns};
 ghost use Rattle.casper_hub.specs.Sound.{IsSound};
-ghost use Rattle.casper_core.specs.Acting.{Does, Leaves, Holds};
+ghost use Rattle.casper_core.specs.Acting.{outside_of, Does, Leaves, Holds};
 ghost use Rattle.casper_core.specs.ClientTurns.{IsTurnOf, client_turn};
 ghost use Rattle.casper_core.specs.Loading.{OnlyReads, OnlyLoads};
+ghost use Rattle.casper_core.specs.Shaped.{Makes, read_with, client_turn_with};
 
 use crate::acquire::acquire;
 use crate::answers::{answer_of, answer_of_serve};
@@ -40,6 +41,7 @@ fn read_within<V: Vault>(
     requires size { V.size vault.old ≡ page_count hub.old }
     requires sure { V.doubt vault.old ≡ None }
     requires sound { IsSound hub.old }
+    ensures makes { IfOk result (λ answer. Makes who (λ answer. within (is_in_range page word) (read_with who page word answer)) hub.old cache.old answer hub.new cache.new) }
     ensures does { IfOk result (λ answer. Does who V.tells (V.image vault.old) (λ outside. within (is_in_range page word) (read_turn who page word outside)) hub.old cache.old answer hub.new cache.new) }
     ensures failed { IfOk result (λ answer. answer ≡ said.Disk → Rose (V.faults vault.old) (V.faults vault.new)) }
     ensures memory { OnErr result (OnlyLoads hub.old hub.new) }
@@ -71,7 +73,7 @@ fn write_within<V: Vault>(
     requires size { V.size vault.old ≡ page_count hub.old }
     requires sure { V.doubt vault.old ≡ None }
     requires sound { IsSound hub.old }
-    ensures does { IfOk result (λ answer. Does who V.tells (V.image vault.old) (λ outside. within (is_in_range page word) (write_turn who page word value outside)) hub.old cache.old answer hub.new cache.new) }
+    ensures makes { IfOk result (λ answer. Makes who (λ answer. within (is_in_range page word) (write_turn who page word value (outside_of answer))) hub.old cache.old answer hub.new cache.new) }
     ensures failed { IfOk result (λ answer. answer ≡ said.Disk → Rose (V.faults vault.old) (V.faults vault.new)) }
     ensures memory { OnErr result (OnlyLoads hub.old hub.new) }
     ensures cache_stays { OnErr result (cache.new ≡ cache.old) }
@@ -100,7 +102,7 @@ fn acquire_within<V: Vault>(
     requires size { V.size vault.old ≡ page_count hub.old }
     requires sure { V.doubt vault.old ≡ None }
     requires sound { IsSound hub.old }
-    ensures does { IfOk result (λ answer. Does who V.tells (V.image vault.old) (λ outside. within (are_in_range wants.now) (acquire_turn who wants.now outside)) hub.old cache.old answer hub.new cache.new) }
+    ensures makes { IfOk result (λ answer. Makes who (λ answer. within (are_in_range wants.now) (acquire_turn who wants.now (outside_of answer))) hub.old cache.old answer hub.new cache.new) }
     ensures failed { IfOk result (λ answer. answer ≡ said.Disk → Rose (V.faults vault.old) (V.faults vault.new)) }
     ensures memory { OnErr result (OnlyLoads hub.old hub.new) }
     ensures cache_stays { OnErr result (cache.new ≡ cache.old) }
@@ -136,6 +138,7 @@ pub(crate) fn act<V: Vault>(
     requires size { V.size vault.old ≡ page_count hub.old }
     requires sure { V.doubt vault.old ≡ None }
     requires sound { IsSound hub.old }
+    ensures makes { IfOk result (λ answer. Makes who (client_turn_with who event.now) hub.old cache.old answer hub.new cache.new) }
     ensures does { IfOk result (λ answer. Does who V.tells (V.image vault.old) (client_turn who event.now) hub.old cache.old answer hub.new cache.new) }
     ensures failed { IfOk result (λ answer. answer ≡ said.Disk → Rose (V.faults vault.old) (V.faults vault.new)) }
     ensures memory { OnErr result (OnlyLoads hub.old hub.new) }

@@ -6,8 +6,9 @@ ghost use Rattle.casper_model.specs.Step.{read_turn, write_turn};
 ghost use Rattle.casper_hub.specs.HubView.{page_count};
 ghost use Rattle.casper_hub.specs.Owned.{Owns};
 ghost use Rattle.casper_hub.specs.Sound.{IsSound};
-ghost use Rattle.casper_core.specs.Acting.{Does, Leaves, Holds};
+ghost use Rattle.casper_core.specs.Acting.{outside_of, Does, Leaves, Holds};
 ghost use Rattle.casper_core.specs.Loading.{OnlyReads, OnlyLoads};
+ghost use Rattle.casper_core.specs.Shaped.{Makes, read_with};
 
 use crate::acquire::acquire;
 use crate::answers::answer_of;
@@ -38,6 +39,7 @@ pub(crate) fn read<V: Vault>(
     requires size { V.size vault.old ≡ page_count hub.old }
     requires sure { V.doubt vault.old ≡ None }
     requires sound { IsSound hub.old }
+    ensures makes { IfOk result (λ answer. Makes who (read_with who page word) hub.old cache.old answer hub.new cache.new) }
     ensures does { IfOk result (λ answer. Does who V.tells (V.image vault.old) (read_turn who page word) hub.old cache.old answer hub.new cache.new) }
     ensures failed { IfOk result (λ answer. answer ≡ said.Disk → Rose (V.faults vault.old) (V.faults vault.new)) }
     ensures memory { OnErr result (OnlyLoads hub.old hub.new) }
@@ -60,7 +62,8 @@ pub(crate) fn read<V: Vault>(
     match reply {
         Reply::Granted => match cache.hit_read(page, word) {
             Some(value) => Ok(Answer::Value(value)),
-            None => Ok(Answer::Granted),
+            // A page that was granted with room for a call can be read.
+            None => unreachable!(),
         },
         refused => Ok(answer_of(refused)),
     }
@@ -85,7 +88,7 @@ pub(crate) fn write<V: Vault>(
     requires size { V.size vault.old ≡ page_count hub.old }
     requires sure { V.doubt vault.old ≡ None }
     requires sound { IsSound hub.old }
-    ensures does { IfOk result (λ answer. Does who V.tells (V.image vault.old) (write_turn who page word value) hub.old cache.old answer hub.new cache.new) }
+    ensures makes { IfOk result (λ answer. Makes who (λ answer. write_turn who page word value (outside_of answer)) hub.old cache.old answer hub.new cache.new) }
     ensures failed { IfOk result (λ answer. answer ≡ said.Disk → Rose (V.faults vault.old) (V.faults vault.new)) }
     ensures memory { OnErr result (OnlyLoads hub.old hub.new) }
     ensures cache_stays { OnErr result (cache.new ≡ cache.old) }
@@ -109,7 +112,8 @@ pub(crate) fn write<V: Vault>(
             if cache.hit_write(page, word, value) {
                 return Ok(Answer::Ok);
             }
-            Ok(Answer::Granted)
+            // A page that was granted with room for a call can be written.
+            unreachable!()
         }
         refused => Ok(answer_of(refused)),
     }

@@ -13,5 +13,7 @@ mod state;
 mod step;
 mod turn;
 
+pub use casper_model::Event;
+pub use casper_space::{Answer, Answers};
 pub use state::Core;
 pub use step::StepFault;

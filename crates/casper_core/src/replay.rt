@@ -1,9 +1,11 @@
-ghost use Rattle.std.specs.Prelude.{◌≡◌, ◌++◌, ◌≤◌, List, IsTrue, OnOk, length, take};
+ghost use Rattle.std.specs.Prelude.{◌≡◌, ◌+◌, ◌-◌, ◌^◌, ◌++◌, ◌≤◌, List, IsTrue, OnOk, length, min};
 ghost use Rattle.casper_space.specs.declared.answer.Answer.{Answer as AnAnswer};
 ghost use Rattle.casper_model.specs.State.{State};
+ghost use Rattle.casper_core.specs.Loading.{OnlyReads};
+ghost use Rattle.casper_core.specs.Shaped.{RunsInShape};
 ghost use Rattle.casper_core.specs.Sound.{IsSound};
 ghost use Rattle.casper_core.specs.Stands.{Stands};
-ghost use Rattle.casper_core.specs.Stepping.{AreBuilt, Runs, HasLegalTrail};
+ghost use Rattle.casper_core.specs.Stepping.{AreBuilt, Runs, HasLegalTrail, RoseBy, completed_in, failures_in};
 ghost use Rattle.casper_core.specs.UnheldPages.{UnheldPagesAreRight};
 
 use crate::{Core, StepFault};
@@ -18,12 +20,19 @@ impl<V: Vault> Core<V> {
     pub fn replay(&mut self, events: &[Event], answers: &mut Answers) -> Result<(), StepFault>
         requires built { AreBuilt events.now }
         ensures run { (said : List AnAnswer) × (answers.new.items ≡ answers.old.items ++ said) × (length said ≤ length events.now)
-            × OnOk result (length said ≡ length events.now) × (IsTrue V.tells → Runs events.now said self.old self.new) }
+            × OnOk result (length said ≡ length events.now) × (IsTrue V.tells → Runs events.now said self.old self.new)
+            × RunsInShape events.now said self.old self.new
+            × RoseBy (failures_in said) (V.faults self.old.vault) (V.faults self.new.vault)
+            × (self.new.calls ≡ min (self.old.calls + completed_in events.now said) (2 ^ 64 - 1)) }
+        ensures never_falls { V.faults self.old.vault ≤ V.faults self.new.vault }
         ensures legal { (state : State) → Stands state self.new → HasLegalTrail state self.new }
         ensures unheld { (state : State) → Stands state self.new → UnheldPagesAreRight state self.new }
-        ensures sound { IsSound self.old → IsSound self.new }
+        ensures vault { OnlyReads V.tells V.size V.image V.version V.room V.doubt V.images_now V.moment V.images_since V.faults self.old.vault self.new.vault }
+        ensures sound { IsSound self.new }
     {
         let _mark: Option<Mark> = None;
+        // What is true of every core holds also where there is no event.
+        let _calls = self.calls();
         for event in events {
             answers.reserve(1)?;
             let answer = self.step(event)?;
@@ -55,6 +64,36 @@ mod tests {
             right: Right::Write,
         };
         Wants::new(&[want]).expect(rt, "wants")
+    }
+
+    #[test]
+    fn replays_a_recall(rt: HostRuntime) -> Result<(), Fail> {
+        let vault = MemVault::new(rt.alloc(), 8)?;
+        let made = Core::new(rt.alloc(), vault, 10_000, 8);
+        let mut core = made.map_err(|refused| refused.1)?;
+        let one = client(&rt, 1);
+        let two = client(&rt, 2);
+        let events = [
+            Event::Join(one),
+            Event::Join(two),
+            Event::Write(one, Page(5), 0, 17),
+            Event::Read(two, Page(5), 0),
+            Event::Serve(one),
+            Event::Read(two, Page(5), 0),
+        ];
+        let expected = [
+            Answer::Joined,
+            Answer::Joined,
+            Answer::Ok,
+            Answer::Pending(Crew::none().with(one)),
+            Answer::Ok,
+            Answer::Value(17),
+        ];
+        let mut answers = Answers::new(rt.alloc());
+        assert_eq!(rt; core.replay(&events, &mut answers), Ok(()));
+        assert_eq!(rt; answers.as_slice(), expected.as_slice());
+        assert_eq!(rt; core.calls(), 2);
+        Ok(())
     }
 
     #[test]
@@ -129,6 +168,7 @@ mod tests {
         for (event, answer) in rows {
             assert_eq!(rt; core.step(&event), Ok(answer));
         }
+        assert_eq!(rt; core.calls(), 10);
         Ok(())
     }
 }

@@ -1,5 +1,6 @@
 ghost use Rattle.std.specs.Prelude.{◌≡◌, ◌≤◌, [], replicate, None, IsTrue, IfOk, IfErr};
-ghost use Rattle.casper_model.specs.State.{start};
+ghost use Rattle.casper_model.specs.State.{State, start};
+ghost use Rattle.casper_core.specs.Shaped.{HasShapeOf};
 ghost use Rattle.casper_core.specs.Sound.{IsSound};
 ghost use Rattle.casper_core.specs.Stands.{Stands};
 ghost use Rattle.casper_core.specs.CoreView.{told_by};
@@ -76,6 +77,7 @@ impl<V: Vault> Core<V> {
         requires least { 8 ≤ capacity }
         requires most { capacity ≤ 1024 }
         ensures stands { IsTrue V.tells → IfOk result (λ core. Stands (start core.told core.size limit capacity) core) }
+        ensures shape { IfOk result (λ core. HasShapeOf (start core.told core.size limit capacity) core) }
         ensures vault { IfOk result (λ core. core.vault ≡ vault) }
         ensures told { IfOk result (λ core. core.told ≡ told_by V.image V.version V.room V.doubt vault) }
         ensures size { IfOk result (λ core. core.size ≡ V.size vault) }
@@ -107,6 +109,7 @@ impl<V: Vault> Core<V> {
     /// The hub.
     pub fn hub(&self) -> &Hub
         ensures hub { result.now ≡ self.now.hub }
+        ensures shape { (state : State) × HasShapeOf state self.now }
         ensures sound { IsSound self.now }
     {
         &self.hub
@@ -114,7 +117,8 @@ impl<V: Vault> Core<V> {
 
     /// How many reads and writes were completed since the session began. The number stays at the greatest of its type.
     pub fn calls(&self) -> u64
-        ensures { result ≡ self.now.calls }
+        ensures calls { result ≡ self.now.calls }
+        ensures sound { IsSound self.now }
     {
         self.calls
     }

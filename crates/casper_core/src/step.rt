@@ -3,7 +3,9 @@ ghost use Rattle.casper_words.specs.Count.{Rose};
 ghost use Rattle.casper_space.specs.declared.answer.Answer.TheVariants as said;
 ghost use Rattle.casper_model.specs.Growth.{StepAdds};
 ghost use Rattle.casper_model.specs.State.{State};
+ghost use Rattle.casper_core.specs.Decided.{AnswersByTheHub};
 ghost use Rattle.casper_core.specs.Loading.{OnlyReads};
+ghost use Rattle.casper_core.specs.Shaped.{StepsInShape};
 ghost use Rattle.casper_core.specs.Sound.{IsSound};
 ghost use Rattle.casper_core.specs.Stands.{Stands};
 ghost use Rattle.casper_core.specs.Stepping.{IsBuilt, Steps, IsUnchanged, completes, counted, HasLegalTrail};
@@ -46,6 +48,7 @@ impl<V: Vault> Core<V> {
     fn carry_out(&mut self, event: &Event) -> Result<Answer, Memory>
         requires built { IsBuilt event.now }
         ensures step { IsTrue V.tells → IfOk result (λ answer. Steps event.now answer self.old self.new) }
+        ensures shape { IfOk result (λ answer. StepsInShape event.now answer self.old self.new) }
         ensures failed { IfOk result (λ answer. answer ≡ said.Disk → Rose (V.faults self.old.vault) (V.faults self.new.vault)) }
         ensures memory { OnErr result (IsUnchanged self.old self.new) }
         ensures stands { IsTrue V.tells → OnErr result ((state : State) → Stands state self.old → Stands state self.new) }
@@ -69,6 +72,8 @@ impl<V: Vault> Core<V> {
     pub fn step(&mut self, event: &Event) -> Result<Answer, StepFault>
         requires built { IsBuilt event.now }
         ensures step { IsTrue V.tells → IfOk result (λ answer. Steps event.now answer self.old self.new) }
+        ensures shape { IfOk result (λ answer. StepsInShape event.now answer self.old self.new) }
+        ensures decided { IfOk result (λ answer. AnswersByTheHub self.old.hub event.now answer) }
         ensures fault { IfOk result (λ answer. answer ≡ said.Disk → Rose (V.faults self.old.vault) (V.faults self.new.vault)) }
         ensures never_falls { V.faults self.old.vault ≤ V.faults self.new.vault }
         ensures memory { OnErr result (IsUnchanged self.old self.new) }
@@ -83,6 +88,8 @@ impl<V: Vault> Core<V> {
         ensures sound { IsSound self.new }
     {
         let _mark: Option<Mark> = None;
+        // What is true of every core is so before the step: by it the answer is known from the hub.
+        let _calls = self.calls();
         let answer = self.carry_out(event)?;
         if !is_call_made(event, &answer) {
             return Ok(answer);

@@ -3,6 +3,7 @@ ghost use Rattle.casper_words.specs.Count.{Rose};
 ghost use Rattle.casper_space.specs.declared.answer.Answer.TheVariants as said;
 ghost use Rattle.casper_model.specs.State.{State};
 ghost use Rattle.casper_core.specs.Loading.{OnlyReads};
+ghost use Rattle.casper_core.specs.Shaped.{StepsInShape};
 ghost use Rattle.casper_core.specs.Sound.{IsSound};
 ghost use Rattle.casper_core.specs.Stands.{Stands};
 ghost use Rattle.casper_core.specs.Stepping.{Steps, IsUnchanged};
@@ -21,6 +22,7 @@ impl<V: Vault> Core<V> {
     pub(crate) fn turn(&mut self, who: Who, event: &Event) -> Result<Answer, Memory>
         requires turn { IsTurnOf who event.now }
         ensures step { IsTrue V.tells → IfOk result (λ answer. Steps event.now answer self.old self.new) }
+        ensures shape { IfOk result (λ answer. StepsInShape event.now answer self.old self.new) }
         ensures failed { IfOk result (λ answer. answer ≡ said.Disk → Rose (V.faults self.old.vault) (V.faults self.new.vault)) }
         ensures memory { OnErr result (IsUnchanged self.old self.new) }
         ensures stands { IsTrue V.tells → OnErr result ((state : State) → Stands state self.old → Stands state self.new) }

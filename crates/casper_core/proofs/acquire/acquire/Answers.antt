@@ -1,5 +1,5 @@
-use Rattle.std.proofs.Common.{◌≡◌, ◌<◌, sym, ap, ◌∙◌, subst, arith, refl}
-use Rattle.std.specs.Prelude.{None, IsSome}
+use Rattle.std.proofs.Common.{◌<◌, sym, ap, ◌∙◌, subst, arith, refl}
+use Rattle.std.specs.Prelude.{IsSome}
 use Rattle.std.proofs.Common.{rules}
 use Rattle.std.proofs.lemmas.Option.{none-some}
 use Rattle.casper_trail.specs.TrailView.{commit_count}
@@ -17,13 +17,13 @@ use Rattle.casper_core.proofs.VaultReads.{reads_nothing, reads_again}
 use Rattle.casper_core.proofs.acquire.acquire.Given as given
 use Rattle.casper_core.proofs.acquire.acquire.Goals as goal
 
-again : (g : given.Over) (first second third : g.row.V.Denot) → g.V.Vault.doubt first ≡ None
+again : (g : given.Over) (first second third : g.row.V.Denot)
     → OnlyReads g.V.Vault.tells g.V.Vault.size g.V.Vault.image g.V.Vault.version g.V.Vault.room g.V.Vault.doubt g.V.Vault.images_now g.V.Vault.moment g.V.Vault.images_since g.V.Vault.faults first second
     → OnlyReads g.V.Vault.tells g.V.Vault.size g.V.Vault.image g.V.Vault.version g.V.Vault.room g.V.Vault.doubt g.V.Vault.images_now g.V.Vault.moment g.V.Vault.images_since g.V.Vault.faults second third
     → OnlyReads g.V.Vault.tells g.V.Vault.size g.V.Vault.image g.V.Vault.version g.V.Vault.room g.V.Vault.doubt g.V.Vault.images_now g.V.Vault.moment g.V.Vault.images_since g.V.Vault.faults first third
 again g first second third =
     reads_again g.V.Vault.tells g.V.Vault.size g.V.Vault.image g.V.Vault.version g.V.Vault.room g.V.Vault.doubt g.V.Vault.images_now g.V.Vault.moment g.V.Vault.images_since g.V.Vault.faults
-    g.met.V.Vault.sure_image g.met.V.Vault.leaves_one g.met.V.Vault.now_counts g.met.V.Vault.only_now first second third
+    g.met.V.Vault.now_counts g.met.V.Vault.only_now g.met.V.Vault.earlier_counts first second third
 
 pub acquire-requires-clause-client : goal.acquire-requires-clause-client
 acquire-requires-clause-client g c = ap (λ (own : Own). own.client) c.loop-turn.invariant.own ∙ c.requires.client
@@ -42,7 +42,7 @@ loop-turn-init g c = record {
   own = refl;
   behind = record { loads = loads_nothing c.args.hub.now; sound = c.requires.sound; frames = λ told base stored right. right };
   vault = reads_nothing g.V.Vault.tells g.V.Vault.size g.V.Vault.image g.V.Vault.version g.V.Vault.room g.V.Vault.doubt g.V.Vault.images_now g.V.Vault.moment g.V.Vault.images_since g.V.Vault.faults
-      g.met.V.Vault.sure_image g.met.V.Vault.leaves_one g.met.V.Vault.now_counts g.met.V.Vault.only_now c.args.vault.now;
+      g.met.V.Vault.now_counts g.met.V.Vault.only_now g.met.V.Vault.earlier_counts c.args.vault.now;
   count = omega (arith, most_pass (is_unframed c.args.hub.now) c.args.wants.now, c.requires.wants.few);
 }
 
@@ -88,7 +88,7 @@ returns-in_err-load-in-Load g c =
       leaves = leaves_behind c.args.who g.V.Vault.tells (g.V.Vault.image c.args.vault.now) c.args.hub.now c.args.cache.now c.load.new.hub behind;
       holds = holds_behind c.args.who g.V.Vault.tells (g.V.Vault.image c.args.vault.now) c.args.hub.now c.args.cache.now c.load.new.hub c.acquire.new.cache behind c.requires.owns
           c.requires.client own;
-      vault = again g c.args.vault.now c.loop-turn.vault c.load.new.vault c.requires.sure inv.vault ensured.vault;
+      vault = again g c.args.vault.now c.loop-turn.vault c.load.new.vault inv.vault ensured.vault;
     }
 
 pub returns-then-not-branch : goal.returns-then-not-branch
@@ -110,7 +110,7 @@ returns-then-not-branch g c =
       leaves = leaves_behind c.args.who g.V.Vault.tells (g.V.Vault.image c.args.vault.now) c.args.hub.now c.args.cache.now c.load.new.hub behind;
       holds = holds_behind c.args.who g.V.Vault.tells (g.V.Vault.image c.args.vault.now) c.args.hub.now c.args.cache.now c.load.new.hub c.acquire.new.cache behind c.requires.owns
           c.requires.client own;
-      vault = again g c.args.vault.now c.loop-turn.vault c.load.new.vault c.requires.sure inv.vault ensured.vault;
+      vault = again g c.args.vault.now c.loop-turn.vault c.load.new.vault inv.vault ensured.vault;
     }
 
 pub returns-in_default : goal.returns-in_default
@@ -157,6 +157,6 @@ loop-turn-preserved g c =
     record {
       own = load.own_same ∙ inv.own;
       behind = behind;
-      vault = again g c.args.vault.now c.loop-turn.vault c.load.new.vault c.requires.sure inv.vault ensured.vault;
+      vault = again g c.args.vault.now c.loop-turn.vault c.load.new.vault inv.vault ensured.vault;
       count = omega (arith, fewer, inv.count);
     }

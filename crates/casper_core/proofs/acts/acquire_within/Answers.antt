@@ -19,8 +19,8 @@ use Rattle.casper_core.proofs.acts.acquire_within.Goals as goal
 pub returns-then-not-all-clause-leaves : goal.returns-then-not-all-clause-leaves
 returns-then-not-all-clause-leaves g c = leaves_hit c.args.who g.V.Vault.tells (g.V.Vault.image c.args.vault.now) c.args.hub.now c.args.cache.now c.requires.sound
 
-pub returns-in_default-clause-does : goal.returns-in_default-clause-does
-returns-in_default-clause-does g c = λ told state part.
+pub returns-in_default-clause-makes : goal.returns-in_default-clause-makes
+returns-in_default-clause-makes g c = λ state part.
     let below : (want : Want) → Contains c.args.wants.now want → want.page < page_count c.args.hub.now = search rules in
     let in_range : are_in_range c.args.wants.now state ≡ true =
     subst (λ pages. list_all (λ want. nat_lt want.page pages) c.args.wants.now ≡ true) (sym part.shared.pages) (all_in_range c.args.wants.now (page_count c.args.hub.now) below) in
@@ -29,10 +29,10 @@ returns-in_default-clause-does g c = λ told state part.
     gives_by c.args.who state (within (are_in_range c.args.wants.now) (acquire_turn c.args.who c.args.wants.now LoadFailed) state) (acquire_step state c.args.who c.args.wants.now 1 LoadFailed)
     answer.Disk c.acquire.new.hub (own_of c.acquire.new.cache)
     (passed_by (are_in_range c.args.wants.now state) answer.Range state (acquire_turn c.args.who c.args.wants.now LoadFailed) in_range)
-    (failed_gives c.args.who (g.V.Vault.image c.args.vault.now) state c.args.hub.now c.args.cache.now c.args.wants.now 1 c.acquire.new.hub c.acquire.new.cache part moved).1
+    (failed_gives c.args.who state c.args.hub.now c.args.cache.now c.args.wants.now 1 c.acquire.new.hub c.acquire.new.cache part moved).1
 
-pub returns-clause-does : goal.returns-clause-does
-returns-clause-does g c = λ told state part.
+pub returns-clause-makes : goal.returns-clause-makes
+returns-clause-makes g c = λ state part.
     let below : (want : Want) → Contains c.args.wants.now want → want.page < page_count c.args.hub.now = search rules in
     let in_range : are_in_range c.args.wants.now state ≡ true =
     subst (λ pages. list_all (λ want. nat_lt want.page pages) c.args.wants.now ≡ true) (sym part.shared.pages) (all_in_range c.args.wants.now (page_count c.args.hub.now) below) in
@@ -43,5 +43,5 @@ returns-clause-does g c = λ told state part.
     (gives_by c.args.who state (within (are_in_range c.args.wants.now) (acquire_turn c.args.who c.args.wants.now NothingFailed) state) (acquire_step state c.args.who c.args.wants.now 1 NothingFailed)
     (of_reply c.in-Some.reply) c.acquire.new.hub (own_of c.acquire.new.cache)
     (passed_by (are_in_range c.args.wants.now state) answer.Range state (acquire_turn c.args.who c.args.wants.now NothingFailed) in_range)
-    (acquired_gives c.args.who (g.V.Vault.image c.args.vault.now) state c.args.hub.now c.args.cache.now c.args.wants.now 1 c.in-Some.reply c.acquire.new.hub c.acquire.new.cache part moved
+    (acquired_gives c.args.who state c.args.hub.now c.args.cache.now c.args.wants.now 1 c.in-Some.reply c.acquire.new.hub c.acquire.new.cache part moved
     c.in_ok-reply.ensures.holds.client))

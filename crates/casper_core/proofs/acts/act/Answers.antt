@@ -2,7 +2,7 @@ use Rattle.std.proofs.Common.{ap, ◌∙◌}
 use Rattle.casper_model.specs.Own as machine
 use Rattle.casper_hub.specs.Owned.{own_of}
 use Rattle.casper_core.proofs.Acquires.{serve_capacity}
-use Rattle.casper_core.proofs.Witness.{some_shared, some_shows}
+use Rattle.casper_hub.proofs.Witness.{some_shared, some_shows}
 use Rattle.casper_core.proofs.acts.act.Goals as goal
 
 pub returns-in_ok-serve-in-Serve-clause-holds : goal.returns-in_ok-serve-in-Serve-clause-holds

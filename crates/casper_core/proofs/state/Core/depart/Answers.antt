@@ -6,10 +6,11 @@ use Rattle.casper_model.specs.declared.event.Event.TheVariants as event
 use Rattle.casper_model.specs.Answers.{of_depart}
 use Rattle.casper_core.specs.CoreView.{CoreView, told_by}
 use Rattle.casper_core.specs.Placing.{placed}
+use Rattle.casper_core.specs.Shaped.{StepsInShape}
 use Rattle.casper_core.specs.Sound.{IsSound}
 use Rattle.casper_core.specs.Stepping.{Steps}
 use Rattle.casper_core.proofs.CoreTurns.{found_at, put_back}
-use Rattle.casper_core.proofs.Departs.{set_again, depart_absent, departed, sound_depart, depart_steps}
+use Rattle.casper_core.proofs.Departs.{set_again, depart_absent, absent_depart_made, departed, sound_depart, depart_steps, depart_made}
 use Rattle.casper_core.proofs.state.Core.depart.Goals as goal
 
 pub returns-in_default-clause-step : goal.returns-in_default-clause-step
@@ -30,6 +31,26 @@ returns-in_default-clause-step g c = λ told.
     let none = found_at core.caches c.number-place.result c.args.who c.index_mut.result.now None same below c.index_mut.ensures.value c.in_default.is in
     subst (λ one. Steps (event.Depart c.args.who) answer.Absent one (record core { caches = slice_set core.caches c.number-place.result c.index_mut.result.now })) c.self.view_is
     (depart_absent core c.number-place.result c.args.who same client sound (slice_set core.caches c.number-place.result c.index_mut.result.now) none
+    (put_back core.caches c.number-place.result c.index_mut.result.now c.index_mut.ensures.value))
+
+pub returns-in_default-clause-shape : goal.returns-in_default-clause-shape
+returns-in_default-clause-shape g c =
+    let core : CoreView g.row.V.Denot = record {
+      hub = c.self.inside.hub;
+      caches = c.self.inside.caches.items;
+      capacity = c.self.inside.capacity;
+      calls = c.self.inside.calls;
+      vault = c.self.inside.vault;
+      size = g.V.Vault.size c.self.inside.vault;
+      told = told_by g.V.Vault.image g.V.Vault.version g.V.Vault.room g.V.Vault.doubt c.self.inside.vault;
+    } in
+    let sound : IsSound core = c.self.invariant in
+    let same = c.number-place.ensures.number in
+    let client : IsClient c.args.who = subst IsClient same (c.number-place.ensures.least, c.number-place.ensures.most) in
+    let below : c.args.who < length core.caches = omega (arith, client.1, sound.places) in
+    let none = found_at core.caches c.number-place.result c.args.who c.index_mut.result.now None same below c.index_mut.ensures.value c.in_default.is in
+    subst (λ one. StepsInShape (event.Depart c.args.who) answer.Absent one (record core { caches = slice_set core.caches c.number-place.result c.index_mut.result.now })) c.self.view_is
+    (absent_depart_made core c.number-place.result c.args.who same client sound (slice_set core.caches c.number-place.result c.index_mut.result.now) none
     (put_back core.caches c.number-place.result c.index_mut.result.now c.index_mut.ensures.value))
 
 pub depart-requires-clause-client : goal.depart-requires-clause-client
@@ -117,6 +138,32 @@ returns-in-Ok-clause-step g c = λ told.
     (depart_steps core c.number-place.result c.args.who same client sound c.in-Some.cache found c.depart.new.self c.depart.new.cache c.in_ok-reply.reply ensured.turn left ensured.client_after ensured.others ensured.sound
     core.calls core.vault core.size core.told ensured.frames refl)))
 
+pub returns-in-Ok-clause-shape : goal.returns-in-Ok-clause-shape
+returns-in-Ok-clause-shape g c =
+    let core : CoreView g.row.V.Denot = record {
+      hub = c.self.inside.hub;
+      caches = c.self.inside.caches.items;
+      capacity = c.self.inside.capacity;
+      calls = c.self.inside.calls;
+      vault = c.self.inside.vault;
+      size = g.V.Vault.size c.self.inside.vault;
+      told = told_by g.V.Vault.image g.V.Vault.version g.V.Vault.room g.V.Vault.doubt c.self.inside.vault;
+    } in
+    let sound : IsSound core = c.self.invariant in
+    let same = c.number-place.ensures.number in
+    let client : IsClient c.args.who = subst IsClient same (c.number-place.ensures.least, c.number-place.ensures.most) in
+    let below : c.args.who < length core.caches = omega (arith, client.1, sound.places) in
+    let found = found_at core.caches c.number-place.result c.args.who c.index_mut.result.now (Some c.in-Some.cache) same below c.index_mut.ensures.value c.in-Some.is in
+    let ensured = c.in_ok-reply.ensures in
+    let left = ensured.absent c.in-Ok.is in
+    let twice = set_again core.caches c.number-place.result (Some c.depart.new.cache) None in
+    let after : CoreView g.row.V.Denot = placed core c.number-place.result c.depart.new.self None core.calls core.vault core.size core.told in
+    subst (λ one. StepsInShape (event.Depart c.args.who) answer.Left one (record after { caches = slice_set (slice_set core.caches c.number-place.result (Some c.depart.new.cache)) c.number-place.result None })) c.self.view_is
+    (subst (λ caches. StepsInShape (event.Depart c.args.who) answer.Left core (record after { caches = caches })) (sym twice)
+    (subst (λ said. StepsInShape (event.Depart c.args.who) said core after) (ap of_depart c.in-Ok.is)
+    (depart_made core c.number-place.result c.args.who same client sound c.in-Some.cache found c.depart.new.self c.depart.new.cache c.in_ok-reply.reply ensured.turn left ensured.client_after ensured.others ensured.sound
+    core.calls core.vault core.size core.told)))
+
 pub returns-in-Ok-clause-sound : goal.returns-in-Ok-clause-sound
 returns-in-Ok-clause-sound g c =
     let core : CoreView g.row.V.Denot = record {
@@ -161,6 +208,25 @@ invariant_of-self-in_default-reply g c =
 
 pub returns-clause-step : goal.returns-clause-step
 returns-clause-step g c =
+    let core : CoreView g.row.V.Denot = record {
+      hub = c.self.inside.hub;
+      caches = c.self.inside.caches.items;
+      capacity = c.self.inside.capacity;
+      calls = c.self.inside.calls;
+      vault = c.self.inside.vault;
+      size = g.V.Vault.size c.self.inside.vault;
+      told = told_by g.V.Vault.image g.V.Vault.version g.V.Vault.room g.V.Vault.doubt c.self.inside.vault;
+    } in
+    let sound : IsSound core = c.self.invariant in
+    let same = c.number-place.ensures.number in
+    let client : IsClient c.args.who = subst IsClient same (c.number-place.ensures.least, c.number-place.ensures.most) in
+    let below : c.args.who < length core.caches = omega (arith, client.1, sound.places) in
+    let found = found_at core.caches c.number-place.result c.args.who c.index_mut.result.now (Some c.in-Some.cache) same below c.index_mut.ensures.value c.in-Some.is in
+    let ensured = c.in_ok-reply.ensures in
+    absurd (c.in_default-reply.not-Ok (departed core c.number-place.result c.args.who same client sound c.in-Some.cache found c.depart.new.self c.depart.new.cache c.in_ok-reply.reply ensured.turn))
+
+pub returns-clause-shape : goal.returns-clause-shape
+returns-clause-shape g c =
     let core : CoreView g.row.V.Denot = record {
       hub = c.self.inside.hub;
       caches = c.self.inside.caches.items;

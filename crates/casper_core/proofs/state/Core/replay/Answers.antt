@@ -1,13 +1,35 @@
-use Rattle.std.proofs.Common.{◌≡◌, ◌++◌, [], ◌∷◌, length, sym, ap, ◌∙◌, subst, refl, arith, rules, append-nil, append_assoc, length-append}
+use Rattle.std.proofs.Common.{◌≡◌, ◌<◌, ◌++◌, [], ◌∷◌, length, sym, ap, ◌∙◌, subst, refl, arith, rules, append-nil, append_assoc, length-append}
 use Rattle.std.specs.Prelude.{slice_index_or}
-use Rattle.casper_core.proofs.ReplayRuns.{run_nothing, run_more, run_still, of_ok}
+use Rattle.casper_core.specs.Loading.{OnlyReads}
+use Rattle.casper_core.proofs.ReplayRuns.{run_nothing, run_more, run_still, of_ok, rose_more, count_more}
+use Rattle.casper_core.proofs.ShapedRuns.{made_nothing, made_more, made_still}
 use Rattle.casper_core.proofs.StepParts.{legal_of, unheld_of}
+use Rattle.casper_core.proofs.VaultReads.{reads_nothing, reads_again}
+use Rattle.casper_core.proofs.state.Core.replay.Given as given
 use Rattle.casper_core.proofs.state.Core.replay.Goals as goal
+
+again : (g : given.Over) (first second third : g.row.V.Denot)
+    → OnlyReads g.V.Vault.tells g.V.Vault.size g.V.Vault.image g.V.Vault.version g.V.Vault.room g.V.Vault.doubt g.V.Vault.images_now g.V.Vault.moment g.V.Vault.images_since g.V.Vault.faults first second
+    → OnlyReads g.V.Vault.tells g.V.Vault.size g.V.Vault.image g.V.Vault.version g.V.Vault.room g.V.Vault.doubt g.V.Vault.images_now g.V.Vault.moment g.V.Vault.images_since g.V.Vault.faults second third
+    → OnlyReads g.V.Vault.tells g.V.Vault.size g.V.Vault.image g.V.Vault.version g.V.Vault.room g.V.Vault.doubt g.V.Vault.images_now g.V.Vault.moment g.V.Vault.images_since g.V.Vault.faults first third
+again g first second third =
+    reads_again g.V.Vault.tells g.V.Vault.size g.V.Vault.image g.V.Vault.version g.V.Vault.room g.V.Vault.doubt g.V.Vault.images_now g.V.Vault.moment g.V.Vault.images_since g.V.Vault.faults
+    g.met.V.Vault.now_counts g.met.V.Vault.only_now g.met.V.Vault.earlier_counts first second third
 
 pub loop-event-init : goal.loop-event-init
 loop-event-init g c = record {
-  run = ([], sym (append-nil c.args.answers.now.items), refl, λ told. run_nothing c.args.events.now c.args.self.now);
-  sound = λ sound. sound;
+  run = (
+    [],
+    sym (append-nil c.args.answers.now.items),
+    refl,
+    λ told. run_nothing c.args.events.now c.args.self.now,
+    made_nothing c.args.events.now c.args.self.now,
+    omega arith,
+    omega (arith, c.calls-calls.ensures.calls, c.calls-calls.type_inv),
+  );
+  vault = reads_nothing g.V.Vault.tells g.V.Vault.size g.V.Vault.image g.V.Vault.version g.V.Vault.room g.V.Vault.doubt g.V.Vault.images_now g.V.Vault.moment g.V.Vault.images_since g.V.Vault.faults
+      g.met.V.Vault.now_counts g.met.V.Vault.only_now g.met.V.Vault.earlier_counts c.args.self.now.vault;
+  sound = c.calls-calls.ensures.sound;
 }
 
 pub loop-event-preserved : goal.loop-event-preserved
@@ -17,21 +39,27 @@ loop-event-preserved g c =
     let answer = c.in_ok-answer.answer in
     let pushed = of_ok c.push.result (c.push.new.self.items ≡ c.reserve.new.self.items ++ answer ∷ []) (c.push.ensures.succeeds (omega (arith, c.in_ok-reserve.ensures.ok))) c.push.ensures.ok in
     let at : length said ≡ c.loop-event.event-index = inv.run.2 in
+    let below : length said < length c.args.events.now = omega (arith, at, c.loop-event-test.true) in
+    let there = subst (λ index. c.event-item.result ≡ slice_index_or c.args.events.now index c.event-item.result) (sym at) c.event-item.is in
+    let ensured = c.in_ok-answer.ensures in
     record {
       run = (
         said ++ answer ∷ [],
         pushed ∙ ap (λ items. items ++ answer ∷ []) (c.in_ok-reserve.ensures.items ∙ inv.run.1) ∙ append_assoc c.args.answers.now.items said (answer ∷ []),
         omega (arith, length-append said (answer ∷ []), at),
-        λ told. run_more c.args.events.now said c.event-item.result answer c.args.self.now c.loop-event.self c.step.new.self (omega (arith, at, c.loop-event-test.true))
-            (subst (λ index. c.event-item.result ≡ slice_index_or c.args.events.now index c.event-item.result) (sym at) c.event-item.is) (inv.run.3 told) (c.in_ok-answer.ensures.step told),
+        λ told. run_more c.args.events.now said c.event-item.result answer c.args.self.now c.loop-event.self c.step.new.self below there (inv.run.3 told) (ensured.step told),
+        made_more c.args.events.now said c.event-item.result answer c.args.self.now c.loop-event.self c.step.new.self below there inv.run.4 ensured.shape,
+        rose_more said answer (g.V.Vault.faults c.args.self.now.vault) (g.V.Vault.faults c.loop-event.self.vault) (g.V.Vault.faults c.step.new.self.vault) inv.run.5 ensured.never_falls ensured.fault,
+        count_more c.args.events.now said c.event-item.result answer c.args.self.now.calls c.loop-event.self.calls c.step.new.self.calls below there inv.run.6 ensured.calls,
       );
-      sound = λ sound. c.in_ok-answer.ensures.sound;
+      vault = again g c.args.self.now.vault c.loop-event.self.vault c.step.new.self.vault inv.vault ensured.vault;
+      sound = ensured.sound;
     }
 
 pub returns-in_err-reserve-clause-run : goal.returns-in_err-reserve-clause-run
 returns-in_err-reserve-clause-run g c =
     let inv = c.loop-event.invariant in
-    (inv.run.0, c.in_err-reserve.ensures.items ∙ inv.run.1, omega (arith, inv.run.2, c.loop-event-test.true), search rules, inv.run.3)
+    (inv.run.0, c.in_err-reserve.ensures.items ∙ inv.run.1, omega (arith, inv.run.2, c.loop-event-test.true), search rules, inv.run.3, inv.run.4, inv.run.5, inv.run.6)
 
 pub returns-in_err-answer-clause-run : goal.returns-in_err-answer-clause-run
 returns-in_err-answer-clause-run g c =
@@ -41,7 +69,13 @@ returns-in_err-answer-clause-run g c =
       omega (arith, inv.run.2, c.loop-event-test.true),
       search rules,
       λ told. run_still c.args.events.now inv.run.0 c.args.self.now c.loop-event.self c.step.new.self (inv.run.3 told) (c.in_err-answer.ensures.stands told),
+      made_still c.args.events.now inv.run.0 c.args.self.now c.loop-event.self c.step.new.self inv.run.4 c.in_err-answer.ensures.memory,
+      omega (arith, inv.run.5, c.in_err-answer.ensures.never_falls),
+      c.in_err-answer.ensures.memory.calls ∙ inv.run.6,
     )
+
+pub returns-in_err-answer-clause-vault : goal.returns-in_err-answer-clause-vault
+returns-in_err-answer-clause-vault g c = again g c.args.self.now.vault c.loop-event.self.vault c.step.new.self.vault c.loop-event.invariant.vault c.in_err-answer.ensures.vault
 
 pub returns-in_err-reserve-clause-legal : goal.returns-in_err-reserve-clause-legal
 returns-in_err-reserve-clause-legal g c = λ state stands. legal_of state c.loop-event.self stands

@@ -1,9 +1,11 @@
 use Rattle.std.proofs.Common.{sym, subst}
 use Rattle.casper_model.specs.Growth.{StepAdds}
 use Rattle.casper_core.specs.CoreView.{CoreView, told_by}
+use Rattle.casper_core.specs.Shaped.{IsMade}
 use Rattle.casper_core.specs.Sound.{IsSound}
 use Rattle.casper_core.specs.Stepping.{IsAnswered}
-use Rattle.casper_core.proofs.StepParts.{legal_of, unheld_of, adds_of, sound_counted, answered_counted}
+use Rattle.casper_core.proofs.DecidedTurns.{decides}
+use Rattle.casper_core.proofs.StepParts.{legal_of, unheld_of, adds_of, sound_counted, answered_counted, made_counted}
 use Rattle.casper_core.proofs.state.Core.step.Goals as goal
 
 pub returns-in_err-answer-clause-legal : goal.returns-in_err-answer-clause-legal
@@ -40,6 +42,20 @@ returns-clause-step g c = λ told state stands.
     answered_counted state c.args.event.now c.in_ok-answer.answer core c.saturating_add-self-inside.result
     (subst (IsAnswered state c.args.event.now c.in_ok-answer.answer) (sym c.self.view_is) (c.in_ok-answer.ensures.step told state stands))
 
+pub returns-clause-shape : goal.returns-clause-shape
+returns-clause-shape g c = λ state shape.
+    let core : CoreView g.row.V.Denot = record {
+      hub = c.self.inside.hub;
+      caches = c.self.inside.caches.items;
+      capacity = c.self.inside.capacity;
+      calls = c.self.inside.calls;
+      vault = c.self.inside.vault;
+      size = g.V.Vault.size c.self.inside.vault;
+      told = told_by g.V.Vault.image g.V.Vault.version g.V.Vault.room g.V.Vault.doubt c.self.inside.vault;
+    } in
+    made_counted state c.args.event.now c.in_ok-answer.answer core c.saturating_add-self-inside.result
+    (subst (IsMade state c.args.event.now c.in_ok-answer.answer) (sym c.self.view_is) (c.in_ok-answer.ensures.shape state shape))
+
 pub returns-clause-legal : goal.returns-clause-legal
 returns-clause-legal g c = λ state stands. legal_of state _ stands
 
@@ -74,3 +90,11 @@ pub returns-clause-adds : goal.returns-clause-adds
 returns-clause-adds g c = λ told state stands.
     subst (λ (core : CoreView g.row.V.Denot). StepAdds state c.args.event.now core.hub.trail) (sym c.self.view_is)
     (adds_of c.args.event.now c.in_ok-answer.answer c.args.self.now c.carry_out.new.self (c.in_ok-answer.ensures.step told) state stands)
+
+pub returns-then-not-is_call_made-clause-decided : goal.returns-then-not-is_call_made-clause-decided
+returns-then-not-is_call_made-clause-decided g c =
+    decides c.args.self.now c.carry_out.new.self c.args.event.now c.in_ok-answer.answer c.calls-calls.ensures.sound c.requires.built c.in_ok-answer.ensures.shape
+
+pub returns-clause-decided : goal.returns-clause-decided
+returns-clause-decided g c =
+    decides c.args.self.now c.carry_out.new.self c.args.event.now c.in_ok-answer.answer c.calls-calls.ensures.sound c.requires.built c.in_ok-answer.ensures.shape

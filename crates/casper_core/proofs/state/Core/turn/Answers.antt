@@ -8,10 +8,11 @@ use Rattle.casper_core.specs.Acting.{Does}
 use Rattle.casper_core.specs.ClientTurns.{client_turn}
 use Rattle.casper_core.specs.Loading.{OnlyLoads}
 use Rattle.casper_core.specs.Placing.{placed}
+use Rattle.casper_core.specs.Shaped.{Makes, StepsInShape, client_turn_with}
 use Rattle.casper_core.specs.Sound.{IsSound}
 use Rattle.casper_core.specs.Stands.{Stands}
 use Rattle.casper_core.specs.Stepping.{Steps}
-use Rattle.casper_core.proofs.CoreTurns.{found_at, put_back, if_ok, on_err, both_errs, absent_turn, sound_turn, turn_steps, turn_unchanged}
+use Rattle.casper_core.proofs.CoreTurns.{found_at, put_back, if_ok, on_err, both_errs, absent_turn, absent_made, sound_turn, turn_steps, turn_made, turn_unchanged}
 use Rattle.casper_core.proofs.state.Core.turn.Given as given
 use Rattle.casper_core.proofs.state.Core.turn.Goals as goal
 
@@ -44,6 +45,25 @@ returns-in_default-clause-step g c = λ told.
     let none = found_at core.caches c.number.result c.args.who c.index_mut.result.now None c.number.ensures.number below c.index_mut.ensures.value c.in_default.is in
     subst (λ one. Steps c.args.event.now answer.Absent one (record core { caches = slice_set core.caches c.number.result c.index_mut.result.now })) c.self.view_is
     (absent_turn core c.number.result c.args.who c.number.ensures.number client sound c.args.event.now (slice_set core.caches c.number.result c.index_mut.result.now) c.requires.turn none
+    (put_back core.caches c.number.result c.index_mut.result.now c.index_mut.ensures.value))
+
+pub returns-in_default-clause-shape : goal.returns-in_default-clause-shape
+returns-in_default-clause-shape g c =
+    let core : CoreView g.row.V.Denot = record {
+      hub = c.self.inside.hub;
+      caches = c.self.inside.caches.items;
+      capacity = c.self.inside.capacity;
+      calls = c.self.inside.calls;
+      vault = c.self.inside.vault;
+      size = g.V.Vault.size c.self.inside.vault;
+      told = told_by g.V.Vault.image g.V.Vault.version g.V.Vault.room g.V.Vault.doubt c.self.inside.vault;
+    } in
+    let sound : IsSound core = c.self.invariant in
+    let client : IsClient c.args.who = subst IsClient c.number.ensures.number (c.number.ensures.least, c.number.ensures.most) in
+    let below : c.args.who < length core.caches = omega (arith, client.1, sound.places) in
+    let none = found_at core.caches c.number.result c.args.who c.index_mut.result.now None c.number.ensures.number below c.index_mut.ensures.value c.in_default.is in
+    subst (λ one. StepsInShape c.args.event.now answer.Absent one (record core { caches = slice_set core.caches c.number.result c.index_mut.result.now })) c.self.view_is
+    (absent_made core c.number.result c.args.who c.number.ensures.number client sound c.args.event.now (slice_set core.caches c.number.result c.index_mut.result.now) c.requires.turn none
     (put_back core.caches c.number.result c.index_mut.result.now c.index_mut.ensures.value))
 
 pub act-requires-clause-client : goal.act-requires-clause-client
@@ -123,6 +143,30 @@ returns-clause-step g c = λ told.
     (turn_steps core c.number.result c.args.who c.number.ensures.number client sound c.in-Some.cache found g.V.Vault.tells c.act.new.hub c.act.new.cache c.self.inside.calls c.act.new.vault
     (g.V.Vault.size c.act.new.vault) (told_by g.V.Vault.image g.V.Vault.version g.V.Vault.room g.V.Vault.doubt c.act.new.vault) c.act.ensures.leaves c.act.ensures.holds
     c.args.event.now answer c.requires.turn told (c.act.ensures.vault.told told) does))
+
+pub returns-clause-shape : goal.returns-clause-shape
+returns-clause-shape g c =
+    let core : CoreView g.row.V.Denot = record {
+      hub = c.self.inside.hub;
+      caches = c.self.inside.caches.items;
+      capacity = c.self.inside.capacity;
+      calls = c.self.inside.calls;
+      vault = c.self.inside.vault;
+      size = g.V.Vault.size c.self.inside.vault;
+      told = told_by g.V.Vault.image g.V.Vault.version g.V.Vault.room g.V.Vault.doubt c.self.inside.vault;
+    } in
+    let sound : IsSound core = c.self.invariant in
+    let client : IsClient c.args.who = subst IsClient c.number.ensures.number (c.number.ensures.least, c.number.ensures.most) in
+    let below : c.args.who < length core.caches = omega (arith, client.1, sound.places) in
+    let found = found_at core.caches c.number.result c.args.who c.index_mut.result.now (Some c.in-Some.cache) c.number.ensures.number below c.index_mut.ensures.value c.in-Some.is in
+    let after : CoreView g.row.V.Denot = placed core c.number.result c.act.new.hub (Some c.act.new.cache) c.self.inside.calls c.act.new.vault (g.V.Vault.size c.act.new.vault)
+    (told_by g.V.Vault.image g.V.Vault.version g.V.Vault.room g.V.Vault.doubt c.act.new.vault) in
+    if_ok c.act.result (λ answer. Makes c.args.who (client_turn_with c.args.who c.args.event.now) core.hub c.in-Some.cache answer c.act.new.hub c.act.new.cache)
+    (λ answer. StepsInShape c.args.event.now answer c.args.self.now after) c.act.ensures.makes
+    (λ answer makes. subst (λ one. StepsInShape c.args.event.now answer one after) c.self.view_is
+    (turn_made core c.number.result c.args.who c.number.ensures.number client sound c.in-Some.cache found g.V.Vault.tells c.act.new.hub c.act.new.cache c.self.inside.calls c.act.new.vault
+    (g.V.Vault.size c.act.new.vault) (told_by g.V.Vault.image g.V.Vault.version g.V.Vault.room g.V.Vault.doubt c.act.new.vault) c.act.ensures.leaves c.act.ensures.holds
+    c.args.event.now answer c.requires.turn makes))
 
 pub returns-clause-stands : goal.returns-clause-stands
 returns-clause-stands g c = λ told.
