@@ -1,6 +1,6 @@
 #!/usr/bin/env bash
-# Replays three schedules over memory, and prints lines per second and peak memory of each: hits of one client, recalls between
-# two clients, and 8 clients over 64 pages.
+# Replays schedules over memory, and prints lines per second and peak memory of each: hits of one client, recalls between two
+# clients, 8 clients over 64 pages, the same over a store of 16,384 pages, and grants of four pages a line, which fill the trail.
 # Usage: bench/replay.sh [LINES], 1,000,000 lines each unless said otherwise, at most 1,048,576.
 set -eu
 top=$(cd "$(dirname "$0")/.." && pwd)
@@ -50,21 +50,38 @@ crowd() {
     }'
 }
 
+# One client takes four pages with each line, from 256 in turn, so that none of the four is held: four touches a line.
+grants() {
+    awk -v lines="$lines" 'BEGIN {
+        print "join 1"
+        for (at = 1; at < lines; at++) {
+            page = (4 * at) % 256
+            printf "acquire 1 %d:r %d:r %d:r %d:r\n", page, page + 1, page + 2, page + 3
+        }
+    }'
+}
+
 # The first run builds the program, if need be.
 "$top/casper" replay mem:64 </dev/null >/dev/null
 
-for schedule in hits recalls crowd; do
+while read -r schedule pages; do
     "$schedule" >"$work/$schedule"
-    python3 - "$top/crates/casper/out/casper" "$work/$schedule" "$schedule" "$lines" <<'PYTHON'
+    python3 - "$top/crates/casper/out/casper" "$work/$schedule" "$schedule" "$pages" "$lines" <<'PYTHON'
 import resource, subprocess, sys, time
-program, path, name, lines = sys.argv[1], sys.argv[2], sys.argv[3], int(sys.argv[4])
+program, path, name, pages, lines = sys.argv[1], sys.argv[2], sys.argv[3], sys.argv[4], int(sys.argv[5])
 with open(path, "rb") as source, open(path + ".answers", "wb") as sink:
     start = time.monotonic()
-    subprocess.run([program, "replay", "mem:64"], stdin=source, stdout=sink, check=True)
+    subprocess.run([program, "replay", f"mem:{pages}"], stdin=source, stdout=sink, check=True)
     seconds = time.monotonic() - start
 peak = resource.getrusage(resource.RUSAGE_CHILDREN).ru_maxrss
 with open(path + ".answers") as answers:
     last = answers.readlines()[-1].strip()
-print(f"{name}: lines={lines} seconds={seconds:.2f} lines_per_second={lines / seconds:.0f} peak_kb={peak} ({last})")
+print(f"{name}: pages={pages} lines={lines} seconds={seconds:.2f} lines_per_second={lines / seconds:.0f} peak_kb={peak} ({last})")
 PYTHON
-done
+done <<'SCHEDULES'
+hits 64
+recalls 64
+crowd 64
+crowd 16384
+grants 256
+SCHEDULES
