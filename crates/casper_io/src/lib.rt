@@ -1,6 +1,7 @@
 //! Where bytes come from and go to, lines, and the counts of what failed.
 #![tactic(auto)]
 
+mod again;
 mod failing;
 mod fault;
 mod laws;

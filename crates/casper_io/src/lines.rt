@@ -1,4 +1,4 @@
-ghost use Rattle.std.specs.Prelude.{◌≡◌, ◌≤◌, [], ◌∷◌, IfOk, MatchOption, OnErr};
+ghost use Rattle.std.specs.Prelude.{◌≡◌, ◌≤◌, [], ◌∷◌, IfOk, MatchOption, OnOk, OnErr};
 ghost use Rattle.std.specs.Io.KnownBytes.{prepend_known};
 ghost use Rattle.casper_words.specs.Count.{Rose};
 ghost use Rattle.casper_io.specs.Lines.{IsShortLine, Takes};
@@ -29,6 +29,7 @@ pub fn next_line<S: Source>(source: &mut S, line: &mut Line) -> Result<Next, IoF
     ensures takes { WhereTold (S.left source.old) (S.left source.new) (Takes result line.new) }
     ensures short { IsShortLine line.new }
     ensures counted { OnErr result (Rose (S.faults source.old) (S.faults source.new)) }
+    ensures uncounted { OnOk result (S.faults source.new ≡ S.faults source.old) }
     ensures never_falls { S.faults source.old ≤ S.faults source.new }
 {
     line.clear();
@@ -49,6 +50,7 @@ fn read_byte<S: Source>(source: &mut S) -> Result<Option<u8>, IoFault>
         (λ byte. S.left source.old ≡ prepend_known (byte ∷ []) (S.left source.new))) }
     ensures kept { OnErr result (S.left source.new ≡ S.left source.old) }
     ensures counted { OnErr result (Rose (S.faults source.old) (S.faults source.new)) }
+    ensures uncounted { OnOk result (S.faults source.new ≡ S.faults source.old) }
     ensures never_falls { S.faults source.old ≤ S.faults source.new }
 {
     let mut piece = [0u8];

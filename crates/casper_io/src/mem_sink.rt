@@ -74,6 +74,7 @@ impl Sink for MemSink {
         ensures moved { IfOk result (λ count. Some self.new.taken ≡ append_known (Some self.old.taken) (take count from.now)) }
         ensures kept { OnErr result (Some self.new.taken ≡ Some self.old.taken) }
         ensures counted { OnErr result (Rose self.old.failing.faults self.new.failing.faults) }
+        ensures uncounted { OnOk result (self.new.failing.faults ≡ self.old.failing.faults) }
         ensures never_falls { self.old.failing.faults ≤ self.new.failing.faults }
     {
         if self.failing.fails_next() || from.len() > self.room - self.bytes.len() {

@@ -63,6 +63,7 @@ impl Source for MemSource {
             IfSome (Some self.old.left) (λ bytes. (count ≡ 0) ↔ (bytes ≡ []))) }
         ensures kept { OnErr result (Some self.new.left ≡ Some self.old.left) }
         ensures counted { OnErr result (Rose self.old.failing.faults self.new.failing.faults) }
+        ensures uncounted { OnOk result (self.new.failing.faults ≡ self.old.failing.faults) }
         ensures never_falls { self.old.failing.faults ≤ self.new.failing.faults }
     {
         if self.failing.fails_next() {

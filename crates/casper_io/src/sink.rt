@@ -17,13 +17,14 @@ pub trait Sink {
     ghost faults: { Self → ℕ };
 
     /// Takes bytes from the front of the piece, and answers how many: at least one, if there is one. Where the write
-    /// fails, the bytes taken stay.
+    /// fails, the bytes taken stay. The count of failed writes rises then alone.
     fn write(&mut self, from: &[u8]) -> Result<usize, IoFault>
         ensures count { IfOk result (λ count. count ≤ length from.now) }
         ensures moves { IfOk result (λ count. 0 < length from.now → 0 < count) }
         ensures moved { IfOk result (λ count. taken self.new ≡ append_known (taken self.old) (take count from.now)) }
         ensures kept { OnErr result (taken self.new ≡ taken self.old) }
         ensures counted { OnErr result (Rose (faults self.old) (faults self.new)) }
+        ensures uncounted { OnOk result (faults self.new ≡ faults self.old) }
         ensures never_falls { faults self.old ≤ faults self.new };
 }
 
@@ -33,6 +34,7 @@ pub fn put_all<K: Sink>(sink: &mut K, bytes: &[u8]) -> Result<(), IoFault>
     ensures all { OnOk result (K.taken sink.new ≡ append_known (K.taken sink.old) bytes.now) }
     ensures part { OnErr result (TakesFront (K.taken sink.old) (K.taken sink.new) bytes.now) }
     ensures counted { OnErr result (Rose (K.faults sink.old) (K.faults sink.new)) }
+    ensures uncounted { OnOk result (K.faults sink.new ≡ K.faults sink.old) }
     ensures never_falls { K.faults sink.old ≤ K.faults sink.new }
 {
     let mut done = 0;

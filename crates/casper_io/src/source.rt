@@ -1,4 +1,4 @@
-ghost use Rattle.std.specs.Prelude.{◌≡◌, ℕ, List, [], Option, ◌<◌, ◌≤◌, ◌↔◌, length, take, IfOk, IfSome, OnErr};
+ghost use Rattle.std.specs.Prelude.{◌≡◌, ℕ, List, [], Option, ◌<◌, ◌≤◌, ◌↔◌, length, take, IfOk, IfSome, OnOk, OnErr};
 ghost use Rattle.std.specs.Io.KnownBytes.{prepend_known};
 ghost use Rattle.casper_words.specs.Count.{Rose};
 
@@ -16,7 +16,7 @@ pub trait Source {
     ghost faults: { Self → ℕ };
 
     /// Moves the next bytes into the front of the piece, and answers how many. Zero for a piece that is not empty
-    /// means that no byte is left. Where the read fails, the bytes left stay.
+    /// means that no byte is left. Where the read fails, the bytes left stay. The count of failed reads rises then alone.
     fn read(&mut self, into: &mut [u8]) -> Result<usize, IoFault>
         ensures count { IfOk result (λ count. count ≤ length into.new) }
         ensures moved { IfOk result (λ count. left self.old ≡ prepend_known (take count into.new) (left self.new)) }
@@ -24,5 +24,6 @@ pub trait Source {
             IfSome (left self.old) (λ bytes. (count ≡ 0) ↔ (bytes ≡ []))) }
         ensures kept { OnErr result (left self.new ≡ left self.old) }
         ensures counted { OnErr result (Rose (faults self.old) (faults self.new)) }
+        ensures uncounted { OnOk result (faults self.new ≡ faults self.old) }
         ensures never_falls { faults self.old ≤ faults self.new };
 }

@@ -1,5 +1,6 @@
 ghost use Rattle.std.specs.Prelude.{◌≡◌, ℕ, List, Option, None, IfOk};
 
+use crate::again::read_again;
 use crate::{IoFault, Source};
 use casper_words::Memory;
 use std::alloc::Global;
@@ -7,7 +8,7 @@ use std::io::{BufReader, Read};
 use std::marker::Model;
 
 /// A source over a reader of the system, with a buffer. It tells nothing of its bytes. Contracts see the count of the reads
-/// that failed.
+/// that failed. A read that a signal interrupted is tried again, and is no fault.
 #[derive(Drop)]
 pub struct StdSource<R> {
     reader: BufReader<R>,
@@ -40,7 +41,7 @@ impl<R: Read> Source for StdSource<R> {
     ghost faults = { λ faults. faults };
 
     fn read(&mut self, into: &mut [u8]) -> Result<usize, IoFault> {
-        match self.reader.read(into) {
+        match read_again(&mut self.reader, into) {
             Ok(count) => Ok(count),
             Err(_error) => {
                 self.faults = self.faults.saturating_add(1);
@@ -83,6 +84,35 @@ mod tests {
         assert_eq!(rt; next_line(&mut source, &mut line), Ok(Next::Line));
         assert_eq!(rt; line.bytes(), b"c".as_slice());
         assert_eq!(rt; next_line(&mut source, &mut line), Ok(Next::End));
+        Ok(())
+    }
+
+    /// A reader that is interrupted before each byte that it gives.
+    #[derive(Drop)]
+    struct Interrupted {
+        is_interrupted: bool,
+    }
+
+    impl Read for Interrupted {
+        fn read(&mut self, buf: &mut [u8]) -> std::io::Result<usize> {
+            self.is_interrupted = !self.is_interrupted;
+            if self.is_interrupted || buf.is_empty() {
+                return Err(Error::from(ErrorKind::Interrupted));
+            }
+            buf[0] = b'\n';
+            Ok(1)
+        }
+    }
+
+    #[test]
+    fn an_interrupted_read_is_tried_again(rt: HostRuntime) -> Result<(), Fail> {
+        let reader = Interrupted {
+            is_interrupted: false,
+        };
+        let mut source = StdSource::new(rt.alloc(), reader)?;
+        let mut line = Line::new(rt.alloc())?;
+        assert_eq!(rt; next_line(&mut source, &mut line), Ok(Next::Line));
+        assert_eq!(rt; next_line(&mut source, &mut line), Ok(Next::Line));
         Ok(())
     }
 

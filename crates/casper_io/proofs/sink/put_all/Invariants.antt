@@ -6,7 +6,7 @@ abbrev pub invariant-loop-done : goal.invariant-loop-done
 invariant-loop-done g l =
     (l.done ≤ length l.bytes)
     × (g.K.Sink.taken l.sink ≡ append_known (g.K.Sink.taken l.initial.sink) (take l.done l.bytes))
-    × (g.K.Sink.faults l.initial.sink ≤ g.K.Sink.faults l.sink)
+    × (g.K.Sink.faults l.sink ≡ g.K.Sink.faults l.initial.sink)
 
 abbrev pub decreases-loop-done : goal.decreases-loop-done
 decreases-loop-done g l = length l.bytes - l.done
