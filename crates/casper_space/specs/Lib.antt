@@ -1,2 +1,4 @@
 pub mod Changes
+pub mod Plain
 pub mod Rising
+pub mod WordCalls
