@@ -6,3 +6,4 @@ pub mod ShelfLemmas
 pub mod VaultLemmas
 pub mod StopLemmas
 pub mod TearLemmas
+pub mod TookLemmas

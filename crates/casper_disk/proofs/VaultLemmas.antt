@@ -7,7 +7,8 @@ use Rattle.std.proofs.lemmas.List.{ext_get_or, length-map, length-replicate, get
 use Rattle.std.proofs.lemmas.List.Elements.{Contains-append_left, Contains-push, Contains-push_cases}
 use Rattle.std.proofs.Math.Seq.{drop-length}
 use Rattle.casper_space.specs.Changes.{Change, with_changes}
-use Rattle.casper_disk.specs.Vault.{Saved, Adds, IsEither, changes_of, page_at, version_after}
+use Rattle.casper_disk.specs.Disk.{Took}
+use Rattle.casper_disk.specs.Vault.{Saved, IsEither, changes_of, page_at, version_after}
 use Rattle.casper_disk.specs.MemVault.{HeldPages, words_in, is_held, whole, held_image, held_saved, saved_since}
 
 -- the first of these pages have frames
@@ -138,7 +139,7 @@ saved_after image after changes version next later saved image_is version_is is 
 -- a commit of which the past keeps what was before it
 pub noted_adds : (old after : HeldPages) (changes : List Change) (next : ℕ) → after.past ≡ old.past ++ held_saved old ∷ []
     → ((saved : Saved) → saved ≡ held_saved after → IsEither (held_image old) old.version changes next saved)
-    → Adds (length old.past) (length after.past) (saved_since old) (saved_since after) (IsEither (held_image old) old.version changes next)
+    → Took (length old.past) (length after.past) (saved_since old) (saved_since after) (IsEither (held_image old) old.version changes next)
 noted_adds old after changes next noted made = record {
   later = omega (arith, ap length noted, length_push old.past (held_saved old));
   only = λ moment saved early since. ⊎_elim
@@ -164,12 +165,3 @@ noted_adds old after changes next noted made = record {
   where
     behind : (moment : ℕ) → moment ≤ length old.past → drop moment after.past ≡ drop moment old.past ++ held_saved old ∷ []
     behind moment early = ap (drop moment) noted ∙ drop-append-le moment old.past (held_saved old ∷ []) early
-
--- two calls, one after the other: what a stop since an earlier moment might have left was so before both, or may be so of one of them
-pub adds_both : (start middle end_at : ℕ) (first second third : ℕ → Saved → Type 0) (may_first may_second : Saved → Type 0)
-    → Adds start middle first second may_first → Adds middle end_at second third may_second
-    → (moment : ℕ) (saved : Saved) → moment ≤ start → third moment saved → first moment saved ⊎ (may_first saved ⊎ may_second saved)
-adds_both start middle end_at first second third may_first may_second one two moment saved early since = ⊎_elim
-    (λ before. ⊎_elim (λ was. inl was) (λ added. inr (inl (one.agrees saved added))) (one.only moment saved early before))
-    (λ added. inr (inr (two.agrees saved added)))
-    (two.only moment saved (omega (arith, early, one.later)) since)

@@ -17,13 +17,17 @@ pub record AgreesBut (may_differ : ℕ → Bool) (blocks image : List (List ℕ)
   pub count : length image ≡ length blocks
   pub same : (at : ℕ) → may_differ at ≡ false → block_at image at ≡ block_at blocks at
 
--- A call takes time: to the images since an earlier moment it adds only those since its own start, and these agree with the
--- blocks at its start but where they may differ.
-pub record Elapses (before now : ℕ) (past since : ℕ → List (List ℕ) → Type 0) (may_differ : ℕ → Bool) (blocks : List (List ℕ)) : Type 0 where
+-- A call takes time: what a stop since an earlier moment might have left stays, and to that it adds only what a stop since its own
+-- start might have left, and that may be so.
+pub record Took {Image : Type 0} (before now : ℕ) (past since : ℕ → Image → Type 0) (may_be : Image → Type 0) : Type 0 where
   pub later : before ≤ now
-  pub only : (moment : ℕ) (image : List (List ℕ)) → moment ≤ before → since moment image → past moment image ⊎ since before image
-  pub keeps : (moment : ℕ) (image : List (List ℕ)) → moment ≤ before → past moment image → since moment image
-  pub agrees : (image : List (List ℕ)) → since before image → AgreesBut may_differ blocks image
+  pub only : (moment : ℕ) (image : Image) → moment ≤ before → since moment image → past moment image ⊎ since before image
+  pub keeps : (moment : ℕ) (image : Image) → moment ≤ before → past moment image → since moment image
+  pub agrees : (image : Image) → since before image → may_be image
+
+-- a call of a disk takes time, and the images that it adds agree with the blocks at its start but where they may differ
+abbrev pub Elapses : ℕ → ℕ → (ℕ → List (List ℕ) → Type 0) → (ℕ → List (List ℕ) → Type 0) → (ℕ → Bool) → List (List ℕ) → Type 0
+Elapses before now past since may_differ blocks = Took before now past since (AgreesBut may_differ blocks)
 
 -- a call leaves the moment and the images since any moment
 pub record Stands {Image : Type 0} (before now : ℕ) (past since : ℕ → Image → Type 0) : Type 0 where

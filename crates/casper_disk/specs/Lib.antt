@@ -7,6 +7,7 @@ pub mod Record
 pub mod Sound
 pub mod Place
 pub mod Slots
+pub mod Handed
 pub mod Stopped
 pub mod StopLaw
 pub mod StepKinds
@@ -14,4 +15,5 @@ pub mod Vault
 pub mod CommitFaults
 pub mod MemVault
 pub mod VaultLaws
+pub mod LeadsTo
 pub mod Touched

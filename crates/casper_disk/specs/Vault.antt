@@ -1,4 +1,4 @@
-use Rattle.std.specs.Prelude.{◌≡◌, ◌⊎◌, ◌==◌, ℕ, ◌+◌, ◌≤◌, Bool, false, List, [], ◌∷◌, nat_lt, cond, map, slice_index_or, option_map, Option, None, Some}
+use Rattle.std.specs.Prelude.{◌≡◌, ◌⊎◌, ◌==◌, ℕ, ◌+◌, Bool, false, List, [], ◌∷◌, nat_lt, cond, map, slice_index_or, option_map, Option, None, Some}
 use Rattle.casper_space.specs.Changes.{Change, VaultRoom, last_version, pages_of, need_of, free_of, room_after, with_changes}
 
 -- the page at a place, a list of its words
@@ -61,11 +61,3 @@ lacking (change ∷ changes) (Some room) =
 abbrev pub IsEither : List (List ℕ) → ℕ → List Change → ℕ → Saved → Type 0
 IsEither image version changes next saved =
     saved ≡ record { image = image; version = version } ⊎ saved ≡ record { image = with_changes image changes; version = next }
-
--- A call of a vault takes time: what a stop since an earlier moment might have left stays, and to that it adds only what a stop since
--- its own start might have left, and that may be so.
-pub record Adds (before now : ℕ) (past since : ℕ → Saved → Type 0) (may_be : Saved → Type 0) : Type 0 where
-  pub later : before ≤ now
-  pub only : (moment : ℕ) (saved : Saved) → moment ≤ before → since moment saved → past moment saved ⊎ since before saved
-  pub keeps : (moment : ℕ) (saved : Saved) → moment ≤ before → past moment saved → since moment saved
-  pub agrees : (saved : Saved) → since before saved → may_be saved

@@ -40,6 +40,10 @@ pub trait Disk {
     // How many calls failed.
     ghost faults: { Self → ℕ };
 
+    // That the first disk may become the second one by calls. A type says here what all its calls keep, which may be more than
+    // this trait can say.
+    ghost leads_to: { Self → Self → Type 0 };
+
     /// The number of blocks.
     fn blocks(&self) -> u32
         ensures { result ≡ size self.now };
@@ -54,7 +58,8 @@ pub trait Disk {
         ensures images { IsTrue tells →
             Stands (moment self.old) (moment self.new) (images_since self.old) (images_since self.new) }
         ensures counted { OnErr result (Rose (faults self.old) (faults self.new)) }
-        ensures never_falls { faults self.old ≤ faults self.new };
+        ensures never_falls { faults self.old ≤ faults self.new }
+        ensures leads { leads_to self.old self.new };
 
     /// Writes a block, which is then loose. After a fault its content is not known.
     fn write(&mut self, at: u32, from: &Block) -> Result<(), DiskFault>
@@ -67,7 +72,8 @@ pub trait Disk {
             Elapses (moment self.old) (moment self.new) (images_since self.old) (images_since self.new)
             (with_loose at (loose self.old)) (content self.old) }
         ensures counted { OnErr result (Rose (faults self.old) (faults self.new)) }
-        ensures never_falls { faults self.old ≤ faults self.new };
+        ensures never_falls { faults self.old ≤ faults self.new }
+        ensures leads { leads_to self.old self.new };
 
     /// Settles what was written. After a fault each block that was loose still is.
     fn sync(&mut self) -> Result<(), DiskFault>
@@ -79,7 +85,8 @@ pub trait Disk {
             Elapses (moment self.old) (moment self.new) (images_since self.old) (images_since self.new)
             (loose self.old) (content self.old) }
         ensures counted { OnErr result (Rose (faults self.old) (faults self.new)) }
-        ensures never_falls { faults self.old ≤ faults self.new };
+        ensures never_falls { faults self.old ≤ faults self.new }
+        ensures leads { leads_to self.old self.new };
 
     /// There are as many blocks as the content has.
     ghost sized: { (disk : Self) → IsTrue tells → size disk ≡ length (content disk) };
@@ -102,4 +109,10 @@ pub trait Disk {
     /// The images since some moment are among those since an earlier one.
     ghost earlier_counts: { (disk : Self) (earlier later : ℕ) (image : List (List ℕ)) → IsTrue tells → earlier ≤ later →
         images_since disk later image → images_since disk earlier image };
+
+    /// A disk leads to itself.
+    ghost leads_to_itself: { (disk : Self) → leads_to disk disk };
+
+    /// What leads to a disk leads to all that this one leads to.
+    ghost leads_on: { (first second third : Self) → leads_to first second → leads_to second third → leads_to first third };
 }

@@ -1,24 +1,26 @@
-ghost use Rattle.std.specs.Prelude.{◌≡◌, ◌≤◌, ℕ, Bool, false, List, [], ⊤, is_ok, IfOk, OnErr};
+ghost use Rattle.std.specs.Prelude.{◌≡◌, ◌*◌, ◌≤◌, ℕ, Bool, false, List, [], ⊤, is_ok, IfOk, OnErr};
 ghost use Rattle.casper_words.specs.Count.{Rose};
 ghost use Rattle.casper_disk.specs.Disk.{none_loose, untold};
+ghost use Rattle.casper_disk.specs.LeadsTo.{FiledLeadsTo, filed_itself, filed_on};
 
 use crate::{Disk, DiskFault};
 use casper_words::Block;
-use std::fs::File;
+use std::fs::{File, OpenFile};
 use std::io;
 use std::marker::Model;
 use std::os::unix::fs::FileExt;
 
 /// A disk over a file of the system. It has as many blocks as the file had whole ones when it was opened. It tells
-/// nothing of them. Contracts see the number of blocks and the count of the calls that failed.
+/// nothing of them. A read or a write that the system cuts short goes on behind what was done, and one that a signal interrupts is
+/// tried again. Contracts see the number of blocks and the count of the calls that failed.
 #[derive(Drop)]
-pub struct FileDisk {
-    file: File,
+pub struct FileDisk<F = File> {
+    file: F,
     blocks: u32,
     faults: u64,
 }
 
-impl Model for FileDisk {
+impl<F> Model for FileDisk<F> {
     ghost use Rattle.casper_disk.specs.File.{Filed};
 
     ghost Value = { Filed };
@@ -26,18 +28,35 @@ impl Model for FileDisk {
     ghost view = { λ own. record { size = own.blocks; faults = own.faults } };
 }
 
-impl FileDisk {
+impl FileDisk<File> {
     /// A disk over the file, none of whose calls has failed. Of a file of more than 2^32 - 1 blocks it has the first ones.
-    pub fn new(file: File) -> io::Result<FileDisk>
+    pub fn new(file: File) -> io::Result<FileDisk<File>>
         ensures { IfOk result (λ disk. disk.faults ≡ 0) }
     {
         let whole = file.metadata()?.len() / u64::from(Block::BYTES);
         let blocks = u32::try_from(whole).unwrap_or(u32::MAX);
-        Ok(FileDisk {
+        Ok(FileDisk::over(file, blocks))
+    }
+}
+
+impl<F> FileDisk<F> {
+    /// A disk of as many blocks over the file, none of whose calls has failed.
+    pub(crate) fn over(file: F, blocks: u32) -> FileDisk<F>
+        ensures size { result.size ≡ blocks }
+        ensures faults { result.faults ≡ 0 }
+    {
+        FileDisk {
             file,
             blocks,
             faults: 0,
-        })
+        }
+    }
+
+    /// How many calls failed.
+    pub fn faults(&self) -> u64
+        ensures { result ≡ self.now.faults }
+    {
+        self.faults
     }
 
     /// Hands the answer of the system on, and counts it where it is a fault.
@@ -58,11 +77,13 @@ impl FileDisk {
 }
 
 /// The byte of the file at which a block begins.
-fn offset(at: u32) -> u64 {
+pub(crate) fn offset(at: u32) -> u64
+    ensures { result ≡ at * 4096 }
+{
     u64::from(at) * u64::from(Block::BYTES)
 }
 
-impl Disk for FileDisk {
+impl<F: FileExt + OpenFile> Disk for FileDisk<F> {
     ghost tells = { false };
 
     ghost size = { λ disk. disk.size };
@@ -78,6 +99,8 @@ impl Disk for FileDisk {
     ghost images_since = { λ _ _ _. ⊤ };
 
     ghost faults = { λ disk. disk.faults };
+
+    ghost leads_to = { FiledLeadsTo };
 
     fn blocks(&self) -> u32 {
         self.blocks
@@ -112,13 +135,119 @@ impl Disk for FileDisk {
     ghost only_now = { λ disk image told since. absurd (untold told) };
 
     ghost earlier_counts = { λ disk earlier later image told order since. absurd (untold told) };
+
+    ghost leads_to_itself = { filed_itself };
+
+    ghost leads_on = { filed_on };
 }
 
 #[cfg(test)]
 mod tests {
     use super::*;
-    use std::fs;
+    use std::cell::Cell;
+    use std::fs::{self, Metadata};
+    use std::io::ErrorKind;
     use std::test::Fail;
+
+    /// A file that interrupts every second read and write, does at most 1,000 bytes in one, and has as many syncs that fail.
+    #[derive(Drop)]
+    struct RoughFile {
+        file: File,
+        interrupts: Cell<bool>,
+        failing_syncs: Cell<u32>,
+    }
+
+    impl RoughFile {
+        fn interrupt(&self) -> io::Result<()> {
+            self.interrupts.set(!self.interrupts.get());
+            if self.interrupts.get() {
+                return Err(ErrorKind::Interrupted.into());
+            }
+            Ok(())
+        }
+    }
+
+    impl FileExt for RoughFile {
+        fn read_at(&self, buf: &mut [u8], offset: u64) -> io::Result<usize> {
+            self.interrupt()?;
+            let most = buf.len().min(1000);
+            self.file.read_at(&mut buf[..most], offset)
+        }
+
+        fn write_at(&self, buf: &[u8], offset: u64) -> io::Result<usize> {
+            self.interrupt()?;
+            let most = buf.len().min(1000);
+            self.file.write_at(&buf[..most], offset)
+        }
+    }
+
+    impl OpenFile for RoughFile {
+        fn metadata(&self) -> io::Result<Metadata> {
+            self.file.metadata()
+        }
+
+        fn set_len(&self, size: u64) -> io::Result<()> {
+            self.file.set_len(size)
+        }
+
+        fn sync_all(&self) -> io::Result<()> {
+            let failing = self.failing_syncs.get();
+            if failing > 0 {
+                self.failing_syncs.set(failing - 1);
+                return Err(ErrorKind::Other.into());
+            }
+            self.file.sync_all()
+        }
+
+        fn sync_data(&self) -> io::Result<()> {
+            self.sync_all()
+        }
+    }
+
+    /// Fills a block with bytes that are not the same at any two neighbouring places.
+    fn fill(block: &mut Block, step: u8) {
+        let mut byte = 0u8;
+        for at in 0..4096 {
+            byte = byte.wrapping_add(step);
+            block.put(at, &[byte]);
+        }
+    }
+
+    #[test]
+    fn two_blocks_of_a_rough_file(rt: HostRuntime) -> Result<(), Fail> {
+        let path = "casper_disk_rough_test";
+        let file = fs::OpenOptions::new()
+            .read(true)
+            .write(true)
+            .create(true)
+            .truncate(true)
+            .open(&rt, path)?;
+        let rough = RoughFile {
+            file,
+            interrupts: Cell::new(false),
+            failing_syncs: Cell::new(1),
+        };
+        let mut disk = FileDisk::over(rough, 2);
+        let mut first = Block::zero(rt.alloc())?;
+        fill(&mut first, 3);
+        let mut second = Block::zero(rt.alloc())?;
+        fill(&mut second, 7);
+        assert!(rt; disk.blocks() == 2);
+        assert_eq!(rt; disk.write(1, &second), Ok(()));
+        assert_eq!(rt; disk.write(0, &first), Ok(()));
+        assert_eq!(rt; disk.faults(), 0);
+        assert_eq!(rt; disk.sync(), Err(DiskFault::Failed));
+        assert_eq!(rt; disk.faults(), 1);
+        assert_eq!(rt; disk.sync(), Ok(()));
+        let mut back = Block::zero(rt.alloc())?;
+        assert_eq!(rt; disk.read(0, &mut back), Ok(()));
+        assert!(rt; back.bytes() == first.bytes());
+        assert_eq!(rt; disk.read(1, &mut back), Ok(()));
+        assert!(rt; back.bytes() == second.bytes());
+        assert_eq!(rt; disk.faults(), 1);
+        fs::remove_file(&rt, path)?;
+        Ok(())
+    }
 
     #[test]
     fn a_file_that_was_cut_fails(rt: HostRuntime) -> Result<(), Fail> {

@@ -1,18 +1,19 @@
-ghost use Rattle.std.specs.Prelude.{◌≡◌, ◌≤◌, ℕ, Bool, false};
+ghost use Rattle.std.specs.Prelude.{◌≡◌, ◌≤◌, ℕ, Bool, false, IfOk};
 ghost use Rattle.casper_words.specs.Count.{Rose};
 ghost use Rattle.casper_disk.specs.Disk.{untold};
 ghost use Rattle.casper_disk.specs.Place.{Missing};
 
+use crate::handed::faults_since;
+use crate::host_file::{open_folder, take_over, write_zeros};
 use crate::{FileDisk, Shelf, ShelfFault};
-use casper_words::Block;
 use std::alloc::Global;
 use std::fs::{self, File, OpenOptions};
 use std::io::{self, ErrorKind};
 use std::marker::Model;
 use std::rt::Files;
 
-/// A shelf over the files of the system, by their paths. It tells nothing of them. Contracts see the count of the calls that
-/// failed.
+/// A shelf over the files of the system, by their paths. It tells nothing of them. A file that another process, or another disk of
+/// this one, has open is not handed out: that is a failed call. Contracts see the count of the calls that failed.
 #[derive(Drop)]
 pub struct FileShelf<R> {
     rt: R,
@@ -35,28 +36,30 @@ fn path_of(name: &[u8]) -> io::Result<&str> {
     }
 }
 
-/// The disk over the file at a path.
-fn open_file<R: Files<File = File>>(rt: &R, name: &[u8]) -> io::Result<FileDisk> {
+/// The disk over the file at a path, which no other process has. What earlier processes wrote is settled first.
+fn open_file<R: Files<File = File>>(rt: &R, name: &[u8]) -> io::Result<FileDisk>
+    ensures { IfOk result (λ disk. disk.faults ≡ 0) }
+{
     let path = path_of(name)?;
     let file = OpenOptions::new().read(true).write(true).open(rt, path)?;
+    let file = take_over(file)?;
+    file.sync_all()?;
     FileDisk::new(file)
 }
 
-/// A disk of zero blocks over a new file at a path.
-fn make_file<R: Files<File = File>>(rt: &R, name: &[u8], blocks: u32) -> io::Result<FileDisk> {
-    let path = path_of(name)?;
-    let file = File::create_new(rt, path)?;
-    let disk = sized_disk(file, blocks);
-    if disk.is_err() {
-        // The name is to be missing still. Where the removal fails too, the caller hears of the first fault.
-        let _answer = fs::remove_file(rt, path);
-    }
-    disk
-}
-
-/// A disk of zero blocks over an empty file.
-fn sized_disk(file: File, blocks: u32) -> io::Result<FileDisk> {
-    file.set_len(u64::from(blocks) * u64::from(Block::BYTES))?;
+/// A disk of zero blocks over a file that was just made at a path.
+fn fill_file<R: Files<File = File>>(
+    rt: &R,
+    path: &str,
+    file: File,
+    blocks: u32,
+) -> io::Result<FileDisk>
+    ensures { IfOk result (λ disk. disk.faults ≡ 0) }
+{
+    let file = take_over(file)?;
+    write_zeros(&file, blocks)?;
+    file.sync_all()?;
+    open_folder(rt, path)?.sync_all()?;
     FileDisk::new(file)
 }
 
@@ -66,6 +69,15 @@ impl<R: Files<File = File>> FileShelf<R> {
         ensures { result ≡ 0 }
     {
         FileShelf { rt, faults: 0 }
+    }
+
+    /// Removes a file, and counts a fault where that fails.
+    fn remove(&mut self, path: &str)
+        ensures { self.old ≤ self.new }
+    {
+        if fs::remove_file(&self.rt, path).is_err() {
+            self.faults = self.faults.saturating_add(1);
+        }
     }
 
     /// Counts a fault, and gives its answer.
@@ -86,6 +98,8 @@ impl<R: Files<File = File>> Shelf for FileShelf<R> {
 
     ghost place = { λ _ _. Missing };
 
+    ghost handed = { λ _ _. 0 };
+
     ghost faults = { λ faults. faults };
 
     fn open(&mut self, _alloc: Global, name: &[u8]) -> Result<FileDisk, ShelfFault> {
@@ -96,15 +110,31 @@ impl<R: Files<File = File>> Shelf for FileShelf<R> {
         }
     }
 
+    /// Writes the zeros, so that a full device is met here. A file whose making fails behind its creation is removed again. Where
+    /// that fails too, the name stays, and this counts as a second fault.
     fn make(&mut self, _alloc: Global, name: &[u8], blocks: u32) -> Result<FileDisk, ShelfFault> {
-        match make_file(&self.rt, name, blocks) {
+        let Ok(path) = path_of(name) else {
+            return Err(self.fault());
+        };
+        let file = match File::create_new(&self.rt, path) {
+            Ok(file) => file,
+            Err(error) if error.kind() == ErrorKind::AlreadyExists => {
+                return Err(ShelfFault::Exists);
+            }
+            Err(_error) => return Err(self.fault()),
+        };
+        match fill_file(&self.rt, path, file, blocks) {
             Ok(disk) => Ok(disk),
-            Err(error) if error.kind() == ErrorKind::AlreadyExists => Err(ShelfFault::Exists),
-            Err(_error) => Err(self.fault()),
+            Err(_error) => {
+                self.remove(path);
+                Err(self.fault())
+            }
         }
     }
 
-    fn close(&mut self, _name: &[u8], _disk: FileDisk) {}
+    fn close(&mut self, _name: &[u8], disk: FileDisk) {
+        self.faults = self.faults.saturating_add(faults_since(0, disk.faults()));
+    }
 
     ghost disks_tell = { λ told. absurd (untold told) };
 }
@@ -113,6 +143,7 @@ impl<R: Files<File = File>> Shelf for FileShelf<R> {
 mod tests {
     use super::*;
     use crate::Disk;
+    use casper_words::Block;
     use std::test::Fail;
 
     #[test]
@@ -129,6 +160,10 @@ mod tests {
                 assert!(rt; disk.blocks() == 2);
                 assert_eq!(rt; disk.write(1, &block), Ok(()));
                 assert_eq!(rt; disk.sync(), Ok(()));
+                assert!(rt;
+                    matches!(shelf.open(rt.alloc(), name), Err(ShelfFault::Failed)),
+                    "it is out"
+                );
                 shelf.close(name, disk);
             }
             Err(_fault) => assert!(rt; false),

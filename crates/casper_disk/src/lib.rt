@@ -6,6 +6,8 @@ mod disk;
 mod fail;
 mod file_disk;
 mod file_shelf;
+mod handed;
+mod host_file;
 mod laws;
 mod mem_disk;
 mod mem_shelf;

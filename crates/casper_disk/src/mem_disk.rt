@@ -9,6 +9,7 @@ ghost use Rattle.casper_disk.specs.Plan.{count_of, fails_next};
 ghost use Rattle.casper_disk.specs.MemDisk.{held_loose, held_since, fresh_disk};
 ghost use Rattle.casper_disk.specs.Calls.{after_read, after_write, after_sync, IsArmed, KeepsRecord};
 ghost use Rattle.casper_disk.specs.Touched.{AreTorn};
+ghost use Rattle.casper_disk.specs.LeadsTo.{HeldLeadsTo, held_itself, held_on};
 
 use crate::blocks::{copies, zero_blocks};
 use crate::plan::Plan;
@@ -177,6 +178,13 @@ impl MemDisk {
         if step.is_written() { at + 1 } else { at }
     }
 
+    /// How many calls failed, since the disk was made.
+    pub fn faults(&self) -> u64
+        ensures { result ≡ self.now.plan.faults }
+    {
+        self.plan.faults()
+    }
+
     /// How many calls of the kind there were since the disk was last armed, or made.
     pub fn count(&self, kind: Kind) -> u64
         ensures { result ≡ count_of self.now.plan kind }
@@ -202,6 +210,8 @@ impl Disk for MemDisk {
 
     ghost faults = { λ disk. disk.plan.faults };
 
+    ghost leads_to = { HeldLeadsTo };
+
     fn blocks(&self) -> u32 {
         self.blocks.len() as u32
     }
@@ -218,6 +228,7 @@ impl Disk for MemDisk {
         ensures images { Stands (length self.old.steps) (length self.new.steps) (held_since self.old) (held_since self.new) }
         ensures counted { OnErr result (Rose self.old.plan.faults self.new.plan.faults) }
         ensures never_falls { self.old.plan.faults ≤ self.new.plan.faults }
+        ensures leads { HeldLeadsTo self.old self.new }
     {
         let fails = self.plan.fails_next(Kind::Read);
         self.plan.count_call(Kind::Read);
@@ -243,6 +254,7 @@ impl Disk for MemDisk {
             (with_loose at (held_loose self.old)) self.old.content }
         ensures counted { OnErr result (Rose self.old.plan.faults self.new.plan.faults) }
         ensures never_falls { self.old.plan.faults ≤ self.new.plan.faults }
+        ensures leads { HeldLeadsTo self.old self.new }
     {
         let fails = self.plan.fails_next(Kind::Write);
         self.plan.count_call(Kind::Write);
@@ -270,6 +282,7 @@ impl Disk for MemDisk {
             (held_loose self.old) self.old.content }
         ensures counted { OnErr result (Rose self.old.plan.faults self.new.plan.faults) }
         ensures never_falls { self.old.plan.faults ≤ self.new.plan.faults }
+        ensures leads { HeldLeadsTo self.old self.new }
     {
         let fails = self.plan.fails_next(Kind::Sync);
         self.plan.count_call(Kind::Sync);
@@ -296,6 +309,10 @@ impl Disk for MemDisk {
 
     ghost earlier_counts = { λ disk earlier later image told order left.
         since_earlier disk.steps disk.content (held_loose disk) earlier later image order left };
+
+    ghost leads_to_itself = { held_itself };
+
+    ghost leads_on = { held_on };
 }
 
 #[cfg(test)]

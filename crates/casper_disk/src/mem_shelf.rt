@@ -2,10 +2,12 @@ ghost use Rattle.std.specs.Prelude.{◌≡◌, ◌≢◌, ◌↔◌, ℕ, ◌≤
 ghost use Rattle.std.proofs.Common.{refl};
 ghost use Rattle.casper_words.specs.Count.{Rose};
 ghost use Rattle.casper_disk.specs.Disk.{none_loose};
+ghost use Rattle.casper_disk.specs.Handed.{faults_since, faults_with};
 ghost use Rattle.casper_disk.specs.MemDisk.{held_loose, fresh_disk};
 ghost use Rattle.casper_disk.specs.Place.{Out, Standing, is_standing, is_there};
-ghost use Rattle.casper_disk.specs.Slots.{place_in, fails_open, fails_make, after_ask};
+ghost use Rattle.casper_disk.specs.Slots.{place_in, handed_in, fails_open, fails_make, after_ask};
 
+use crate::handed::faults_since;
 use crate::slots::Slots;
 use crate::{MemDisk, Shelf, ShelfFault};
 use casper_words::Memory;
@@ -60,6 +62,8 @@ impl Shelf for MemShelf {
 
     ghost place = { λ shelf. place_in shelf.slots };
 
+    ghost handed = { λ shelf. handed_in shelf.slots };
+
     ghost faults = { λ shelf. shelf.faults };
 
     /// Fails exactly where a disk stands under the name and this call is one of those that are to fail.
@@ -70,6 +74,9 @@ impl Shelf for MemShelf {
         ensures out { OnOk result (place_in self.new.slots name.now ≡ Out) }
         ensures others { (other : List ℕ) → other ≢ name.now → place_in self.new.slots other ≡ place_in self.old.slots other }
         ensures kept { OnErr result (place_in self.new.slots name.now ≡ place_in self.old.slots name.now) }
+        ensures handed { IfOk result (λ disk. handed_in self.new.slots name.now ≡ disk.plan.faults) }
+        ensures handed_before { OnErr result (handed_in self.new.slots name.now ≡ handed_in self.old.slots name.now) }
+        ensures others_handed { (other : List ℕ) → other ≢ name.now → handed_in self.new.slots other ≡ handed_in self.old.slots other }
         ensures after { self.new ≡ record (after_ask (fails_open self.old name.now) self.old) { slots = self.new.slots } }
         ensures new_alone { IsErrOf result ShelfFault.Exists → ⊥ }
         ensures no_memory { IsErrOf result ShelfFault.Memory → ⊥ }
@@ -97,6 +104,9 @@ impl Shelf for MemShelf {
         ensures out { OnOk result (place_in self.new.slots name.now ≡ Out) }
         ensures others { (other : List ℕ) → other ≢ name.now → place_in self.new.slots other ≡ place_in self.old.slots other }
         ensures kept { OnErr result (place_in self.new.slots name.now ≡ place_in self.old.slots name.now) }
+        ensures handed { IfOk result (λ disk. handed_in self.new.slots name.now ≡ disk.plan.faults) }
+        ensures handed_before { OnErr result (handed_in self.new.slots name.now ≡ handed_in self.old.slots name.now) }
+        ensures others_handed { (other : List ℕ) → other ≢ name.now → handed_in self.new.slots other ≡ handed_in self.old.slots other }
         ensures after { self.new ≡ record (after_ask (fails_make self.old name.now) self.old) { slots = self.new.slots } }
         ensures old_alone { IsErrOf result ShelfFault.NoSuch → ⊥ }
         ensures counted { IsErrOf result ShelfFault.Failed → Rose self.old.faults self.new.faults }
@@ -119,9 +129,14 @@ impl Shelf for MemShelf {
         requires { place_in self.old.slots name.now ≡ Out }
         ensures stands { place_in self.new.slots name.now ≡ Standing disk }
         ensures others { (other : List ℕ) → other ≢ name.now → place_in self.new.slots other ≡ place_in self.old.slots other }
-        ensures after { self.new ≡ record self.old { slots = self.new.slots } }
-        ensures faults { self.new.faults ≡ self.old.faults }
+        ensures others_handed { (other : List ℕ) → other ≢ name.now → handed_in self.new.slots other ≡ handed_in self.old.slots other }
+        ensures after { self.new ≡ record self.old { slots = self.new.slots; faults = self.new.faults } }
+        ensures faults { self.new.faults ≡ faults_with self.old.faults (faults_since (handed_in self.old.slots name.now) disk.plan.faults) }
+        ensures counted { Rose (handed_in self.old.slots name.now) disk.plan.faults → Rose self.old.faults self.new.faults }
+        ensures never_falls { self.old.faults ≤ self.new.faults }
     {
+        let faults = faults_since(self.slots.handed(name), disk.faults());
+        self.faults = self.faults.saturating_add(faults);
         self.slots.put(name, disk);
     }
 

@@ -3,6 +3,7 @@ ghost use Rattle.std.proofs.Common.{inl};
 ghost use Rattle.casper_space.specs.Changes.{with_changes};
 ghost use Rattle.casper_disk.specs.Vault.{Saved, changes_of};
 ghost use Rattle.casper_disk.specs.MemVault.{words_in, is_held, held_image, held_saved, saved_since};
+ghost use Rattle.casper_disk.specs.LeadsTo.{PagesLeadTo, pages_themselves, pages_on};
 ghost use Rattle.casper_disk.specs.VaultLaws.{image_count, page_filled, never_in_doubt, only_saved_now, since_earlier};
 
 use crate::past::Past;
@@ -129,6 +130,8 @@ impl Vault for MemVault {
 
     ghost faults = { λ _. 0 };
 
+    ghost leads_to = { PagesLeadTo };
+
     fn pages(&self) -> u32 {
         self.frames.len() as u32
     }
@@ -182,6 +185,10 @@ impl Vault for MemVault {
     ghost only_now = { λ vault saved told since. only_saved_now vault saved since };
 
     ghost earlier_counts = { λ vault earlier later saved told order since. since_earlier vault earlier later saved order since };
+
+    ghost leads_to_itself = { pages_themselves };
+
+    ghost leads_on = { pages_on };
 }
 
 #[cfg(test)]

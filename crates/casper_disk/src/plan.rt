@@ -68,6 +68,13 @@ impl Plan {
         }
     }
 
+    /// How many calls failed.
+    pub(crate) fn faults(&self) -> u64
+        ensures { result ≡ self.now.faults }
+    {
+        self.faults
+    }
+
     /// Whether the next call of the kind is to fail.
     pub(crate) fn fails_next(&self, kind: Kind) -> bool
         ensures { result ≡ fails_next self.now kind }
@@ -82,6 +89,7 @@ impl Plan {
     pub(crate) fn count_call(&mut self, kind: Kind)
         ensures after { self.new ≡ counted kind self.old }
         ensures faults { self.new.faults ≡ self.old.faults }
+        ensures same_fails { self.new.fails ≡ self.old.fails }
     {
         match kind {
             Kind::Read => self.reads = self.reads.saturating_add(1),
@@ -95,6 +103,7 @@ impl Plan {
         ensures after { self.new ≡ with_fault self.old }
         ensures counted { Rose self.old.faults self.new.faults }
         ensures never_falls { self.old.faults ≤ self.new.faults }
+        ensures same_fails { self.new.fails ≡ self.old.fails }
     {
         self.faults = self.faults.saturating_add(1);
         DiskFault::Failed
@@ -107,6 +116,7 @@ impl Plan {
         ensures err { OnErr result (self.new ≡ with_fault self.old) }
         ensures counted { OnErr result (Rose self.old.faults self.new.faults) }
         ensures never_falls { self.old.faults ≤ self.new.faults }
+        ensures same_fails { self.new.fails ≡ self.old.fails }
     {
         if fails {
             return Err(self.fault());

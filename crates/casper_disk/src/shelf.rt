@@ -1,6 +1,7 @@
 ghost use Rattle.std.specs.Prelude.{◌≡◌, ◌≢◌, ◌↔◌, ℕ, ◌≤◌, Bool, List, replicate, IsTrue, IsFalse, IsErrOf, IfOk, OnOk, OnErr};
 ghost use Rattle.casper_words.specs.Count.{Rose};
 ghost use Rattle.casper_disk.specs.Disk.{none_loose};
+ghost use Rattle.casper_disk.specs.Handed.{faults_since, faults_with};
 ghost use Rattle.casper_disk.specs.Place.{Place, Out, Standing, is_standing, is_there};
 
 use crate::Disk;
@@ -34,7 +35,8 @@ impl From<Memory> for ShelfFault {
 /// A shelf, on which disks stand by name. A disk that was opened or made is out until it is closed, and its name is there all
 /// the while.
 ///
-/// A shelf may tell what stands under each name, or tell nothing. It counts its faults, up to `u64::MAX`.
+/// A shelf may tell what stands under each name, or tell nothing. It counts its faults, up to `u64::MAX`: the opens and makes that
+/// failed, and of each disk that was closed the calls that failed since it was handed out.
 pub trait Shelf {
     type Disk: Disk + Send;
 
@@ -44,7 +46,10 @@ pub trait Shelf {
     // What stands under a name.
     ghost place: { Self → List ℕ → Place Self.Disk };
 
-    // How many calls failed.
+    // The faults that the disk of a name had when it was last handed out.
+    ghost handed: { Self → List ℕ → ℕ };
+
+    // How many calls failed, of the shelf and of the disks that were closed.
     ghost faults: { Self → ℕ };
 
     /// Hands out the disk that stands under the name, as it stood.
@@ -54,6 +59,9 @@ pub trait Shelf {
         ensures out { IsTrue tells → OnOk result (place self.new name.now ≡ Out) }
         ensures others { IsTrue tells → (other : List ℕ) → other ≢ name.now → place self.new other ≡ place self.old other }
         ensures kept { IsTrue tells → OnErr result (place self.new name.now ≡ place self.old name.now) }
+        ensures handed { IfOk result (λ disk. handed self.new name.now ≡ Self.Disk.faults disk) }
+        ensures handed_before { OnErr result (handed self.new name.now ≡ handed self.old name.now) }
+        ensures others_handed { (other : List ℕ) → other ≢ name.now → handed self.new other ≡ handed self.old other }
         ensures new_alone { IsErrOf result ShelfFault.Exists → ⊥ }
         ensures counted { IsErrOf result ShelfFault.Failed → Rose (faults self.old) (faults self.new) }
         ensures never_falls { faults self.old ≤ faults self.new };
@@ -66,16 +74,23 @@ pub trait Shelf {
         ensures out { IsTrue tells → OnOk result (place self.new name.now ≡ Out) }
         ensures others { IsTrue tells → (other : List ℕ) → other ≢ name.now → place self.new other ≡ place self.old other }
         ensures kept { IsTrue tells → OnErr result (place self.new name.now ≡ place self.old name.now) }
+        ensures handed { IfOk result (λ disk. handed self.new name.now ≡ Self.Disk.faults disk) }
+        ensures handed_before { OnErr result (handed self.new name.now ≡ handed self.old name.now) }
+        ensures others_handed { (other : List ℕ) → other ≢ name.now → handed self.new other ≡ handed self.old other }
         ensures old_alone { IsErrOf result ShelfFault.NoSuch → ⊥ }
         ensures counted { IsErrOf result ShelfFault.Failed → Rose (faults self.old) (faults self.new) }
         ensures never_falls { faults self.old ≤ faults self.new };
 
-    /// Takes a disk back, which then stands under its name as it was handed in. It takes no memory.
+    /// Takes a disk back, which then stands under its name as it was handed in. The calls of the disk that failed since it was handed
+    /// out count among the faults of the shelf. It takes no memory.
     fn close(&mut self, name: &[u8], disk: Self::Disk)
         requires { IsTrue tells → place self.old name.now ≡ Out }
         ensures stands { IsTrue tells → place self.new name.now ≡ Standing disk }
         ensures others { IsTrue tells → (other : List ℕ) → other ≢ name.now → place self.new other ≡ place self.old other }
-        ensures faults { faults self.new ≡ faults self.old };
+        ensures others_handed { (other : List ℕ) → other ≢ name.now → handed self.new other ≡ handed self.old other }
+        ensures faults { faults self.new ≡ faults_with (faults self.old) (faults_since (handed self.old name.now) (Self.Disk.faults disk)) }
+        ensures counted { Rose (handed self.old name.now) (Self.Disk.faults disk) → Rose (faults self.old) (faults self.new) }
+        ensures never_falls { faults self.old ≤ faults self.new };
 
     /// Where the shelf tells what stands, its disks tell their content.
     ghost disks_tell: { IsTrue tells → IsTrue Self.Disk.tells };

@@ -1,6 +1,6 @@
 ghost use Rattle.std.specs.Prelude.{◌≡◌, ◌≢◌, ℕ, ◌<◌, List, [], true, false, length, slice_index_or, IsFalse, IfSome, OnSome, IfNone, OnOk, OnErr};
 ghost use Rattle.casper_disk.specs.Place.{Missing, Out, Standing, is_standing, is_there};
-ghost use Rattle.casper_disk.specs.Slots.{place_in, is_named_at};
+ghost use Rattle.casper_disk.specs.Slots.{place_in, handed_in, is_named_at};
 
 use crate::MemDisk;
 use crate::slot::Slot;
@@ -71,12 +71,27 @@ impl Slots {
         }
     }
 
+    /// How many faults the disk of the name had when it was last handed out.
+    pub(crate) fn handed(&self, name: &[u8]) -> u64
+        ensures { result ≡ handed_in self.now name.now }
+    {
+        match find(&self.slots, name) {
+            Some(at) => {
+                let slot = &self.slots[at];
+                slot.handed()
+            }
+            None => 0,
+        }
+    }
+
     /// Takes out the disk that stands under the name.
     pub(crate) fn take(&mut self, name: &[u8]) -> Option<MemDisk>
         ensures stood { IfSome result (λ disk. place_in self.old name.now ≡ Standing disk) }
         ensures none { IfNone result (IsFalse (is_standing (place_in self.old name.now))) }
         ensures out { OnSome result (place_in self.new name.now ≡ Out) }
         ensures others { (other : List ℕ) → other ≢ name.now → place_in self.new other ≡ place_in self.old other }
+        ensures handed { IfSome result (λ disk. handed_in self.new name.now ≡ disk.plan.faults) }
+        ensures others_handed { (other : List ℕ) → other ≢ name.now → handed_in self.new other ≡ handed_in self.old other }
     {
         match find(&self.slots, name) {
             Some(at) => {
@@ -92,6 +107,7 @@ impl Slots {
         requires { place_in self.old name.now ≡ Out }
         ensures stands { place_in self.new name.now ≡ Standing disk }
         ensures others { (other : List ℕ) → other ≢ name.now → place_in self.new other ≡ place_in self.old other }
+        ensures handed { (other : List ℕ) → handed_in self.new other ≡ handed_in self.old other }
     {
         if let Some(at) = find(&self.slots, name) {
             let slot = &mut self.slots[at];
@@ -104,6 +120,8 @@ impl Slots {
         requires { place_in self.old name.now ≡ Missing }
         ensures out { OnOk result (place_in self.new name.now ≡ Out) }
         ensures others { (other : List ℕ) → other ≢ name.now → place_in self.new other ≡ place_in self.old other }
+        ensures handed { OnOk result (handed_in self.new name.now ≡ 0) }
+        ensures others_handed { (other : List ℕ) → other ≢ name.now → handed_in self.new other ≡ handed_in self.old other }
         ensures err { OnErr result (self.new ≡ self.old) }
     {
         let slot = Slot::out(alloc, name)?;

@@ -2,9 +2,9 @@ ghost use Rattle.std.specs.Prelude.{◌≡◌, ◌⊎◌, ◌↔◌, ℕ, ◌+�
 ghost use Rattle.std.specs.List.Sorted.{IsStrictlyIncreasing};
 ghost use Rattle.casper_words.specs.Count.{Rose};
 ghost use Rattle.casper_space.specs.Changes.{Change, VaultRoom, pages_of, with_changes};
-ghost use Rattle.casper_disk.specs.Disk.{Stands};
+ghost use Rattle.casper_disk.specs.Disk.{Stands, Took};
 ghost use Rattle.casper_disk.specs.CommitFaults.{is_of_disk};
-ghost use Rattle.casper_disk.specs.Vault.{Saved, Adds, IsEither, page_at, changes_of, changes_in, version_after, room_with, version_settled, room_settled, is_worn, lacking};
+ghost use Rattle.casper_disk.specs.Vault.{Saved, IsEither, page_at, changes_of, changes_in, version_after, room_with, version_settled, room_settled, is_worn, lacking};
 
 use crate::DiskFault;
 use casper_words::{Frame, Memory, Page};
@@ -76,6 +76,10 @@ pub trait Vault {
     // How many calls failed by a fault of the disk.
     ghost faults: { Self → ℕ };
 
+    // That the first vault may become the second one by calls. A type says here what all its calls keep, which may be more than
+    // this trait can say.
+    ghost leads_to: { Self → Self → Type 0 };
+
     /// The number of pages.
     fn pages(&self) -> u32
         ensures { result ≡ size self.now };
@@ -99,9 +103,10 @@ pub trait Vault {
         ensures room { room self.new ≡ room self.old }
         ensures doubt { IsTrue tells → doubt self.new ≡ doubt self.old }
         ensures images { IsTrue tells →
-            Adds (moment self.old) (moment self.new) (images_since self.old) (images_since self.new) (images_now self.old) }
+            Took (moment self.old) (moment self.new) (images_since self.old) (images_since self.new) (images_now self.old) }
         ensures counted { OnErr result (Rose (faults self.old) (faults self.new)) }
-        ensures never_falls { faults self.old ≤ faults self.new };
+        ensures never_falls { faults self.old ≤ faults self.new }
+        ensures leads { leads_to self.old self.new };
 
     /// Gives these pages these words, all of them or none. The answer is the version then, which is the next one where there is
     /// a change. The memory is taken before anything is written, then the version and the room are looked at, then the disk is
@@ -133,9 +138,10 @@ pub trait Vault {
         ensures stands { IsTrue tells → IfErr result (λ fault. IsFalse (is_of_disk fault) →
             Stands (moment self.old) (moment self.new) (images_since self.old) (images_since self.new)) }
         ensures images { IsTrue tells →
-            Adds (moment self.old) (moment self.new) (images_since self.old) (images_since self.new)
+            Took (moment self.old) (moment self.new) (images_since self.old) (images_since self.new)
             (IsEither (image self.old) (version self.old) (changes_of changes.now)
-            (version_after (changes_of changes.now) (version self.old))) };
+            (version_after (changes_of changes.now) (version self.old))) }
+        ensures leads { leads_to self.old self.new };
 
     /// Makes the changes that are in doubt. The answer is the next version, which is then the image's. After a fault they are in
     /// doubt still. Where nothing is in doubt there is nothing to make, and the answer is the version.
@@ -155,9 +161,10 @@ pub trait Vault {
         ensures counted { OnErr result (Rose (faults self.old) (faults self.new)) }
         ensures never_falls { faults self.old ≤ faults self.new }
         ensures images { IsTrue tells →
-            Adds (moment self.old) (moment self.new) (images_since self.old) (images_since self.new)
+            Took (moment self.old) (moment self.new) (images_since self.old) (images_since self.new)
             (IsEither (image self.old) (version self.old) (changes_in (doubt self.old))
-            (version_settled (doubt self.old) (version self.old))) };
+            (version_settled (doubt self.old) (version self.old))) }
+        ensures leads { leads_to self.old self.new };
 
     /// There are as many pages as the image has.
     ghost sized: { (vault : Self) → IsTrue tells → size vault ≡ length (image vault) };
@@ -187,4 +194,10 @@ pub trait Vault {
     /// What a stop since some moment might have left is among what one since an earlier moment might have left.
     ghost earlier_counts: { (vault : Self) (earlier later : ℕ) (saved : Saved) → IsTrue tells → earlier ≤ later →
         images_since vault later saved → images_since vault earlier saved };
+
+    /// A vault leads to itself.
+    ghost leads_to_itself: { (vault : Self) → leads_to vault vault };
+
+    /// What leads to a vault leads to all that this one leads to.
+    ghost leads_on: { (first second third : Self) → leads_to first second → leads_to second third → leads_to first third };
 }

@@ -1,4 +1,5 @@
-use Rattle.std.proofs.Common.{◌<◌, length, refl, ap, arith, length-append}
+use Rattle.std.proofs.Common.{◌<◌, ◌∙◌, length, refl, ap, arith, length-append}
+use Rattle.casper_disk.specs.MemDisk.{Held}
 use Rattle.casper_disk.specs.declared.step.Step.TheVariants as step
 use Rattle.casper_disk.proofs.CallLemmas.{step_keeps}
 use Rattle.casper_disk.proofs.RecordLemmas.{none_marked, synced_loose, unsynced_loose, synced_elapses, unsynced_elapses, refused_elapses}
@@ -38,3 +39,19 @@ returns-then-fails-clause-record c = rw (← c.self.view_is) (step_keeps _ _ ste
 
 pub returns-clause-record : goal.returns-clause-record
 returns-clause-record c = rw (← c.self.view_is) (step_keeps _ _ step.Synced c.push_reserved-2.ensures.items refl)
+
+pub returns-then-fails-clause-leads : goal.returns-then-fails-clause-leads
+returns-then-fails-clause-leads c = record {
+  size = ap (λ (disk : Held). length disk.content) c.self.view_is;
+  kept = returns-then-fails-clause-record c;
+  fails = c.fault-then-fails.ensures.same_fails ∙ c.count_call.ensures.same_fails ∙ ap (λ (disk : Held). disk.plan.fails) c.self.view_is;
+  faults = omega (arith, c.fault-then-fails.ensures.never_falls, c.count_call.ensures.faults, ap (λ (disk : Held). disk.plan.faults) c.self.view_is);
+}
+
+pub returns-clause-leads : goal.returns-clause-leads
+returns-clause-leads c = record {
+  size = ap (λ (disk : Held). length disk.content) c.self.view_is;
+  kept = returns-clause-record c;
+  fails = c.count_call.ensures.same_fails ∙ ap (λ (disk : Held). disk.plan.fails) c.self.view_is;
+  faults = omega (arith, c.count_call.ensures.faults, ap (λ (disk : Held). disk.plan.faults) c.self.view_is);
+}

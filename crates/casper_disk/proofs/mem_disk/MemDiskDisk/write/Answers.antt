@@ -1,5 +1,5 @@
 use Rattle.std.proofs.Common.{◌≡◌, ◌<◌, true, length, set, refl, ◌∙◌, ap, arith, [], length-append}
-use Rattle.std.proofs.lemmas.List.{get_or_read}
+use Rattle.std.proofs.lemmas.List.{get_or_read, length-set}
 use Rattle.casper_disk.specs.MemDisk.{Held}
 use Rattle.casper_disk.specs.declared.step.Step.TheVariants as step
 use Rattle.casper_disk.proofs.CallLemmas.{step_keeps}
@@ -44,3 +44,11 @@ returns-clause-record c =
     (step_keeps _ _ (step.Wrote c.args.at c.copy_from.new.self) c.push_reserved.ensures.items
     (written_back c.self.inside.blocks.items c.args.at c.copy_from-2.new.self c.copy_from.new.self
     (c.copy_from.ensures.same ∙ get_or_read c.self.inside.blocks.items c.args.at c.index_mut-block.result.now within c.index_mut-block.ensures.value [])))
+
+pub returns-clause-leads : goal.returns-clause-leads
+returns-clause-leads c = record {
+  size = length-set c.self.inside.blocks.items c.args.at _ ∙ ap (λ (disk : Held). length disk.content) c.self.view_is;
+  kept = returns-clause-record c;
+  fails = c.answer.ensures.same_fails ∙ c.count_call.ensures.same_fails ∙ ap (λ (disk : Held). disk.plan.fails) c.self.view_is;
+  faults = omega (arith, c.answer.ensures.never_falls, c.count_call.ensures.faults, ap (λ (disk : Held). disk.plan.faults) c.self.view_is);
+}

@@ -1,4 +1,5 @@
-use Rattle.std.proofs.Common.{◌≡◌, ◌+◌, ◌++◌, ◌∙◌, ℕ, Option, List, [], ◌∷◌, sym, ap, length, map}
+use Rattle.std.proofs.Common.{◌≡◌, ◌+◌, ◌++◌, ◌∙◌, ℕ, Option, List, [], ◌∷◌, sym, ap, length, map, arith}
+use Rattle.std.proofs.lemmas.List.{length-map}
 use Rattle.std.proofs.lemmas.Bool.{eqb-false}
 use Rattle.casper_space.specs.Changes.{with_changes}
 use Rattle.casper_disk.specs.Vault.{Saved, changes_of, version_after}
@@ -29,3 +30,12 @@ returns-clause-images c told =
     ∙ ap (λ (vault : HeldPages). vault.past ++ held_saved old ∷ []) c.self.view_is in
     noted_adds old after (changes_of changes) (version_after (changes_of changes) old.version) noted
     (λ saved is. saved_after (held_image old) _ (changes_of changes) old.version _ (c.self.inside.version + 1) saved (returns-clause-image c told) risen is)
+
+pub returns-clause-leads : goal.returns-clause-leads
+returns-clause-leads c = record {
+  size = length-map c.put_all.new.frames.items words_in ∙ c.put_all.ensures.count ∙ sym (length-map c.hold_all.new.frames.items words_in)
+      ∙ ap length c.hold_all.ensures.same ∙ ap (λ (vault : HeldPages). length vault.pages) c.self.view_is;
+  version = omega (arith, ap (λ (vault : HeldPages). vault.version) c.self.view_is);
+  more = saved_of c.deref.result.now c.self.inside.version ∷ [];
+  past = c.then-self-inside.ensures ∙ ap (λ (vault : HeldPages). vault.past ++ saved_of c.deref.result.now c.self.inside.version ∷ []) c.self.view_is;
+}
