@@ -48,6 +48,7 @@ pub(crate) fn read_found<D: Disk>(disk: &mut D, block: &mut Block) -> Result<Fou
     requires { 5 ≤ D.size disk.old }
     ensures found { IsTrue D.tells → IfOk result (λ found. found ≡ roots_found (D.content disk.old)) }
     ensures size { D.size disk.new ≡ D.size disk.old }
+    ensures leads { D.leads_to disk.old disk.new }
     ensures read { IsTrue D.tells → IsOnlyRead D.content D.loose D.moment D.images_since disk.old disk.new }
     ensures counted { OnErr result (Rose (D.faults disk.old) (D.faults disk.new)) }
     ensures never_falls { D.faults disk.old ≤ D.faults disk.new }
@@ -68,6 +69,7 @@ fn read_gate<D: Disk>(disk: &mut D, at: u32, block: &mut Block) -> Result<u8, Di
     requires { at < D.size disk.old }
     ensures gate { IsTrue D.tells → IfOk result (λ gate. gate ≡ slice_index (block_at (D.content disk.old) at) 0) }
     ensures size { D.size disk.new ≡ D.size disk.old }
+    ensures leads { D.leads_to disk.old disk.new }
     ensures read { IsTrue D.tells → IsOnlyRead D.content D.loose D.moment D.images_since disk.old disk.new }
     ensures counted { OnErr result (Rose (D.faults disk.old) (D.faults disk.new)) }
     ensures never_falls { D.faults disk.old ≤ D.faults disk.new }
@@ -80,6 +82,7 @@ fn read_body<D: Disk>(disk: &mut D, at: u32, block: &mut Block) -> Result<FoundB
     requires { at < D.size disk.old }
     ensures body { IsTrue D.tells → IfOk result (λ body. body ≡ body_found (block_at (D.content disk.old) at)) }
     ensures size { D.size disk.new ≡ D.size disk.old }
+    ensures leads { D.leads_to disk.old disk.new }
     ensures read { IsTrue D.tells → IsOnlyRead D.content D.loose D.moment D.images_since disk.old disk.new }
     ensures counted { OnErr result (Rose (D.faults disk.old) (D.faults disk.new)) }
     ensures never_falls { D.faults disk.old ≤ D.faults disk.new }

@@ -24,5 +24,5 @@ pub use maps::Maps;
 pub use opening::open_roots;
 pub use pair::{Pair, read_pair};
 pub use roots::Roots;
-pub use slot::{Slot, pick};
-pub use writing::{close_spare, open_gate, write_body};
+pub use slot::{OPEN, Slot, pick};
+pub use writing::{close_spare, open_gate, write_and_sync, write_body};

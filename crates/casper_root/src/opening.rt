@@ -20,6 +20,7 @@ pub fn open_roots<D: Disk>(alloc: Global, disk: &mut D) -> Result<Roots, OpenFau
     ensures roots { IsTrue D.tells → Answers result (opened (D.content disk.old)) }
     ensures fits { IfOk result (Fits (D.size disk.old)) }
     ensures size { D.size disk.new ≡ D.size disk.old }
+    ensures leads { D.leads_to disk.old disk.new }
     ensures read { IsTrue D.tells → IsOnlyRead D.content D.loose D.moment D.images_since disk.old disk.new }
     ensures counted { result ≡ Err OpenFault.Disk → Rose (D.faults disk.old) (D.faults disk.new) }
     ensures never_falls { D.faults disk.old ≤ D.faults disk.new }

@@ -25,6 +25,7 @@ pub fn read_pair<D: Disk>(disk: &mut D, block: &mut Block) -> Result<Pair, DiskF
     requires { 5 ≤ D.size disk.old }
     ensures pair { IsTrue D.tells → IfOk result (λ pair. pair ≡ pair_of (roots_found (D.content disk.old))) }
     ensures size { D.size disk.new ≡ D.size disk.old }
+    ensures leads { D.leads_to disk.old disk.new }
     ensures read { IsTrue D.tells → IsOnlyRead D.content D.loose D.moment D.images_since disk.old disk.new }
     ensures counted { OnErr result (Rose (D.faults disk.old) (D.faults disk.new)) }
     ensures never_falls { D.faults disk.old ≤ D.faults disk.new }

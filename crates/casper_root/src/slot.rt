@@ -1,7 +1,7 @@
 ghost use Rattle.std.specs.Prelude.{◌≡◌, ◌≢◌, ◌↔◌, ◌<◌, None, IfSome};
 ghost use Rattle.casper_root.specs.Choice.{current_slot, IsCurrent};
 ghost use Rattle.casper_root.specs.Format.{open_byte};
-ghost use Rattle.casper_root.specs.Slots.{body_place, gate_place};
+ghost use Rattle.casper_root.specs.Slots.{body_place, gate_place, other_slot};
 
 /// One of the two places of a root: A has its body in block 1 and its gate in block 2, B in blocks 3 and 4.
 #[derive(Clone, Copy, Debug, PartialEq, Eq)]
@@ -12,7 +12,7 @@ pub enum Slot {
 
 impl Slot {
     /// The block of its body.
-    pub(crate) fn body_place(self) -> u32
+    pub fn body_place(self) -> u32
         ensures place { result ≡ body_place self }
         ensures fixed { result < 5 }
     {
@@ -23,7 +23,7 @@ impl Slot {
     }
 
     /// The block of its gate.
-    pub(crate) fn gate_place(self) -> u32
+    pub fn gate_place(self) -> u32
         ensures place { result ≡ gate_place self }
         ensures fixed { result < 5 }
     {
@@ -32,10 +32,20 @@ impl Slot {
             Slot::B => 4,
         }
     }
+
+    /// The other slot, that of the spare root.
+    pub fn other_slot(self) -> Slot
+        ensures { result ≡ other_slot self }
+    {
+        match self {
+            Slot::A => Slot::B,
+            Slot::B => Slot::A,
+        }
+    }
 }
 
 /// The first byte of an open gate.
-pub(crate) const OPEN: u8 = 0xA5;
+pub const OPEN: u8 = 0xA5;
 
 /// The slot of the current root: the one with an open gate and the greater sequence number, A where both are equal.
 /// There is none exactly where neither gate is open.
