@@ -1,0 +1,6 @@
+pub mod Root
+pub mod States
+pub mod Added
+pub mod StateLaws
+pub mod OpenedLaws
+pub mod Pieces

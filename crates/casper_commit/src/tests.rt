@@ -1,0 +1,3 @@
+mod noted;
+mod order;
+mod stops;
