@@ -1,0 +1,11 @@
+pub mod Numbers
+pub mod Levels
+pub mod Faulty
+pub mod Bits
+pub mod Mapped
+pub mod Reading
+pub mod Planned
+pub mod Room
+pub mod MapLaws
+pub mod PlanLaws
+pub mod RoomLaws
