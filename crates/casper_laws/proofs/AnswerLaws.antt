@@ -33,9 +33,9 @@ use Rattle.casper_laws.specs.Additions.{grants_pages}
 use Rattle.casper_laws.specs.AnswerLaws.{HasRightsAndRoom, GrantsRightsAndRoom, GrantedGivesRightsAndRoom}
 use Rattle.casper_laws.proofs.CompletedCalls.{unless_turn}
 use Rattle.casper_laws.proofs.ExactAdditions.{Refuses, IfRefused, either_refuses, missing_refuses, full_refuses}
-use Rattle.casper_laws.proofs.Lists.{any_of, contains_mapped}
+use Rattle.casper_turns.proofs.Lists.{any_of, contains_mapped}
 use Rattle.casper_laws.proofs.PendingSteps.{acquire_empties}
-use Rattle.casper_laws.proofs.TurnFrozen.{unrefused}
+use Rattle.casper_turns.proofs.TurnFrozen.{unrefused}
 
 -- what passes a test in a list passes it in the reverse
 any_reversed : {X : Type 0} (test : X → Bool) (xs : List X) → list_any test xs ≡ true → list_any test (reverse xs) ≡ true

@@ -18,7 +18,7 @@ use Rattle.casper_model.proofs.StepRights.{hit_by}
 use Rattle.casper_laws.specs.AnswerLaws.{HasRightsAndRoom}
 use Rattle.casper_laws.proofs.AnswerLaws.{grants_rights}
 use Rattle.casper_laws.proofs.ExactAdditions.{granted_is}
-use Rattle.casper_laws.proofs.Lists.{contains_here}
+use Rattle.casper_turns.proofs.Lists.{contains_here}
 
 -- with the right and the room that were wanted for a call it can be made
 pub can_with : (own : Own) (want : Want) → HasRightsAndRoom own (want ∷ []) 1 → can_hit own want.page want.right ≡ true

@@ -30,7 +30,7 @@ use Rattle.casper_model.specs.State.{State, own_at, start}
 use Rattle.casper_model.specs.Run.{state_after}
 use Rattle.casper_model.proofs.Places.{client_each, client_placed, client_unplaced, client_beyond}
 use Rattle.casper_laws.specs.AnswerLaws.{is_over, KeepsOutcomes, EveryKeptOutcomeIsOver}
-use Rattle.casper_laws.proofs.KeptByTurns.{KeptByTurns, step_keeps, run_keeps}
+use Rattle.casper_turns.proofs.KeptByTurns.{KeptByTurns, step_keeps, run_keeps}
 use Rattle.casper_laws.proofs.PendingSteps.{nobody_at_start}
 
 -- what is kept for a client is nothing, or an outcome that is over

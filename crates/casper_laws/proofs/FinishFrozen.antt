@@ -1,56 +1,25 @@
-use Rattle.std.proofs.Common.{◌≡◌, ℕ, List, [], ◌∷◌, Bool, true, false, ◌==◌, ◌&&◌, cond, not, map, filter, Contains, refl, sym, ap, ◌∙◌, subst, true≢false}
+use Rattle.std.proofs.Common.{◌≡◌, ℕ, List, [], ◌∷◌, Bool, true, false, ◌==◌, ◌&&◌, cond, Contains, refl, sym, ap, ◌∙◌, subst, true≢false, not, map, filter}
 use Rattle.std.specs.Prelude.{Option, None, Some, is_some, option_map, nat_lt, ⊤}
-use Rattle.std.proofs.lemmas.Bool.{and_parts, cond_both, cond-true, eqb-true, eq-eqb, not-true, false_from_ne_true}
-use Rattle.casper_words.specs.Crew.{has_member}
-use Rattle.casper_words.specs.declared.page.Right.TheVariants as may
-use Rattle.casper_trail.specs.declared.mark.Mark.TheVariants.{Commit}
-use Rattle.casper_trail.specs.Association.{association_of}
-use Rattle.casper_trail.proofs.Rounds.{association_holds_its_client}
-use Rattle.casper_trail.proofs.Growth.{others_after_mark}
+use Rattle.std.proofs.lemmas.Bool.{and_parts, cond_both, eqb-true, cond-true, eq-eqb, not-true}
 use Rattle.casper_model.specs.declared.outcome.Outcome.{Outcome}
-use Rattle.casper_model.specs.declared.outcome.Outcome.TheVariants as outcome
-use Rattle.casper_model.specs.declared.outcome.Kept.{Kept}
-use Rattle.casper_model.specs.Held.{allows}
-use Rattle.casper_model.specs.Client.{Client}
-use Rattle.casper_model.specs.Stabilisation.{Stabilisation, Phase, Gathering, Sealed, Doubtful, is_gathering, is_sealed, is_doubtful}
-use Rattle.casper_model.specs.Shared.{Shared, rights_at}
-use Rattle.casper_model.specs.Finish.{finish, finished_by, finished_as, failed, ended, committed, settled, settled_by, stabilisation_led_by, doubtful_of}
+use Rattle.casper_model.specs.Stabilisation.{Stabilisation, is_sealed, is_doubtful, Doubtful}
+use Rattle.casper_model.specs.Finish.{finish, settled, doubtful_of, finished_by, finished_as, failed, committed, settled_by, stabilisation_led_by}
 use Rattle.casper_space.specs.Changes.{Change, pages_of, free_of, need_of, last_version, VaultRoom}
 use Rattle.casper_model.specs.Vault.{VaultState, commit, written_unless, written_with, refused_at_once, refused_for_room, settled_with, settled_vault}
 use Rattle.casper_model.specs.Outside.{Outside, NothingFailed, LoadFailed, WriteOutFailed, WriteOutDoubted, SettleFailed}
 use Rattle.casper_model.specs.State.{State, Unfinished}
 use Rattle.casper_model.specs.WriteOutStep.{is_unfinished_of, sealed_of, job_of, busy_lead, written_out, changes_of, finish_turn, settle_turn}
 use Rattle.casper_model.proofs.Conflicts.{neither}
-use Rattle.casper_laws.specs.FrozenLaws.{AreFrozen, IsSealedBy, is_any_doubtful, ended_in_doubt, NoneIsUnfinished, OneIsUnfinished, AreWriteOutsInOrder, HasOrderlyStabilisations}
-use Rattle.casper_laws.proofs.Lists.{any_of, none_passes, any_none, find_found, find_none, contains_map, contains_mapped, contains_filter}
-use Rattle.casper_laws.proofs.ApartLeads.{one_with_member}
-use Rattle.casper_laws.proofs.FrozenChanges.{MayWriteNoMore, one_of_lead, frozen_mapped, some_frozen}
-use Rattle.casper_laws.proofs.TurnFrozen.{rights_each}
-use Rattle.casper_laws.proofs.LeaveFrozen.{rolled_back_frozen}
-
--- a stabilisation that ends leaves the others in order
-ended_less : (shared : Shared) (one : Stabilisation) (kept : Kept) → MayWriteNoMore shared (ended shared one kept)
-ended_less shared one kept =
-    rights_each (λ who client. cond (has_member who one.askers) (record client { kept = Some kept }) client) shared
-    (λ who client.
-    cond_both (has_member who one.askers) (record client { kept = Some kept }) client (λ (after : Client). after.rights ≡ client.rights) (λ is. refl) (λ is. refl))
-
-ended_frozen : (shared : Shared) (one : Stabilisation) (kept : Kept) → AreFrozen shared → AreFrozen (ended shared one kept)
-ended_frozen shared one kept =
-    some_frozen shared (ended shared one kept) (λ lead. not (lead == one.lead)) refl (λ other inside further. refl) (ended_less shared one kept)
-
-pub committed_frozen : (shared : Shared) (one : Stabilisation) → Contains shared.stabilisations one → AreFrozen shared → AreFrozen (committed shared one).shared
-committed_frozen shared one inside frozen =
-    some_frozen shared (committed shared one).shared (λ lead. not (lead == one.lead)) refl
-    (λ other also further.
-    others_after_mark shared.trail (Commit one.lead (association_of shared.trail one.lead)) other.lead refl
-    (false_from_ne_true (has_member other.lead (association_of shared.trail one.lead))
-    (λ found.
-    let same : other ≡ one =
-    one_with_member shared.trail shared.stabilisations other one other.lead frozen.apart also inside
-    (association_holds_its_client shared.trail other.lead (frozen.leads other also)) found in
-    true≢false (sym (eq-eqb other.lead one.lead (ap (λ (x : Stabilisation). x.lead) same)) ∙ not-true (other.lead == one.lead) further))))
-    (ended_less shared one _) frozen
+use Rattle.casper_turns.specs.Frozen.{AreFrozen, IsSealedBy}
+use Rattle.casper_laws.specs.FrozenLaws.{is_any_doubtful, ended_in_doubt, NoneIsUnfinished, OneIsUnfinished, AreWriteOutsInOrder, HasOrderlyStabilisations}
+use Rattle.casper_turns.proofs.Lists.{any_of, any_none, find_found, find_none, none_passes, contains_map, contains_mapped, contains_filter}
+use Rattle.casper_turns.proofs.FinishFrozen.{doubting, doubt_frozen, sealed_only, ended_frozen, committed_frozen}
+use Rattle.casper_words.specs.Crew.{has_member}
+use Rattle.casper_trail.specs.Association.{association_of}
+use Rattle.casper_model.specs.Shared.{Shared}
+use Rattle.casper_turns.proofs.FrozenChanges.{one_of_lead}
+use Rattle.casper_turns.proofs.LeaveFrozen.{rolled_back_frozen}
+use Rattle.casper_model.specs.declared.outcome.Outcome.TheVariants as outcome
 
 -- what holds behind the finish of a write-out, or a settle: no two are in doubt, and one is where the write-out ended so
 pub record FinishedWell (after : Shared) (doubt : Bool) : Type 0 where
@@ -81,21 +50,10 @@ failed_well shared one cause None frozen none =
 failed_well shared one cause (Some lost) frozen none =
     without_doubt _ (rolled_back_frozen shared lost frozen) (undoubted shared (λ other. not (has_member other.lead (association_of shared.trail lost))) none)
 
-sealed_only : (phase : Phase) → is_sealed phase ≡ true → is_gathering phase ≡ false
-sealed_only Gathering is = absurd (true≢false (sym is))
-sealed_only Sealed is = refl
-sealed_only Doubtful is = absurd (true≢false (sym is))
-
--- a sealed stabilisation comes into doubt
-abbrev pub doubting : ℕ → Stabilisation → Stabilisation
-doubting lead one = cond (one.lead == lead) (record one { phase = Doubtful }) one
-
 doubt_well : (shared : Shared) (one : Stabilisation) → Contains shared.stabilisations one → is_sealed one.phase ≡ true → AreFrozen shared
     → is_any_doubtful shared ≡ false → FinishedWell (record shared { stabilisations = map (doubting one.lead) shared.stabilisations }) true
 doubt_well shared one inside sealed frozen none = record {
-  frozen =
-      frozen_mapped shared after (doubting one.lead) refl leads (λ other also. refl)
-      (λ other also who page member writes. quiet other also who page (sym (ap (λ lead. has_member who (association_of shared.trail lead)) (leads other)) ∙ member) writes) frozen;
+  frozen = doubt_frozen shared one inside (sealed_only one.phase sealed) frozen;
   most = λ x y x_in y_in x_doubtful y_doubtful.
       let a = contains_map (doubting one.lead) shared.stabilisations x x_in in
       let b = contains_map (doubting one.lead) shared.stabilisations y y_in in
@@ -110,30 +68,11 @@ doubt_well shared one inside sealed frozen none = record {
       (ap (λ (x : Stabilisation). is_doubtful x.phase) (cond-true (one.lead == one.lead) (record one { phase = Doubtful }) one (eq-eqb one.lead one.lead refl)));
 }
   where
-    after : Shared
-    after = record shared { stabilisations = map (doubting one.lead) shared.stabilisations }
-
-    leads : (other : Stabilisation) → (doubting one.lead other).lead ≡ other.lead
-    leads other = cond_both (other.lead == one.lead) (record other { phase = Doubtful }) other (λ (x : Stabilisation). x.lead ≡ other.lead) (λ is. refl) (λ is. refl)
-
     was_led : (other : Stabilisation) → Contains shared.stabilisations other → is_doubtful (doubting one.lead other).phase ≡ true → other.lead ≡ one.lead
     was_led other also =
         cond_both (other.lead == one.lead) (record other { phase = Doubtful }) other (λ (x : Stabilisation). is_doubtful x.phase ≡ true → other.lead ≡ one.lead)
         (λ is doubtful. eqb-true other.lead one.lead is)
         (λ is doubtful. absurd (true≢false (sym doubtful ∙ none_passes (λ (x : Stabilisation). is_doubtful x.phase) shared.stabilisations other none also)))
-
-    -- a member of the one may write nothing
-    quiet : (other : Stabilisation) → Contains shared.stabilisations other → (who page : ℕ) → has_member who (association_of shared.trail other.lead) ≡ true
-        → allows (rights_at shared who) page may.Write ≡ true
-        → (is_gathering (doubting one.lead other).phase ≡ true) × (has_member who (doubting one.lead other).awaited ≡ true)
-    quiet other also who page member writes =
-        let was = frozen.quiet other also who page member writes in
-        cond_both (other.lead == one.lead) (record other { phase = Doubtful }) other
-        (λ (x : Stabilisation). (is_gathering x.phase ≡ true) × (has_member who x.awaited ≡ true))
-        (λ is.
-        let same : other ≡ one = one_of_lead shared other one frozen also inside (eqb-true other.lead one.lead is) in
-        absurd (true≢false (sym was.0 ∙ ap (λ (x : Stabilisation). is_gathering x.phase) same ∙ sealed_only one.phase sealed)))
-        (λ is. was)
 
 pub finish_well : (shared : Shared) (lead : ℕ) (how : Outcome) → AreFrozen shared → IsSealedBy shared lead → is_any_doubtful shared ≡ false
     → FinishedWell (finish shared lead how).shared (ended_in_doubt how)

@@ -1,5 +1,5 @@
 use Rattle.std.proofs.Common.{◌≡◌, ℕ, List, [], ◌∷◌, true, false, ◌==◌, map, Contains, refl, sym, ap, ◌∙◌, subst, true≢false}
-use Rattle.std.specs.Prelude.{Option, None, Some, is_some, nat_lt, ⊤}
+use Rattle.std.specs.Prelude.{Option, None, Some, nat_lt, ⊤}
 use Rattle.std.proofs.lemmas.Bool.{cond_both, eqb-true, eq-eqb}
 use Rattle.casper_trail.specs.declared.item.Item.{Item}
 use Rattle.casper_trail.specs.Image.{image_of, image_with}
@@ -16,10 +16,12 @@ use Rattle.casper_model.specs.Vault.{VaultState, commit, written_unless, written
 use Rattle.casper_model.specs.State.{State, Unfinished}
 use Rattle.casper_model.specs.WriteOutStep.{finish_turn, settle_turn, written_out, changes_of, job_of, busy_lead}
 use Rattle.casper_model.specs.LegalHistory.{HasHistory}
-use Rattle.casper_laws.specs.FrozenLaws.{AreFrozen, IsSealedBy, is_any_doubtful, ended_in_doubt, OneIsUnfinished, AreWriteOutsInOrder, HasOrderlyStabilisations}
+use Rattle.casper_turns.specs.Frozen.{AreFrozen, IsSealedBy}
+use Rattle.casper_laws.specs.FrozenLaws.{is_any_doubtful, ended_in_doubt, OneIsUnfinished, AreWriteOutsInOrder, HasOrderlyStabilisations}
 use Rattle.casper_laws.specs.StoredImage.{image_by, image_due, HasStoredImage}
-use Rattle.casper_laws.proofs.Lists.{any_of, none_passes, find_found, find_none, contains_map}
-use Rattle.casper_laws.proofs.FinishFrozen.{doubting, finish_well, settled_well, idle_before}
+use Rattle.casper_turns.proofs.Lists.{any_of, none_passes, find_found, find_none, contains_map, not_some}
+use Rattle.casper_turns.proofs.FinishFrozen.{doubting}
+use Rattle.casper_laws.proofs.FinishFrozen.{finish_well, settled_well, idle_before}
 use Rattle.casper_laws.proofs.WrittenImage.{image_written}
 
 -- what a finish leaves of a stored image: it is stable, and a doubt settles to that with the doubtful association
@@ -80,9 +82,6 @@ finish_image base shared lead how image settles frozen seal none is doubt =
         let led : one.lead ≡ lead = eqb-true one.lead lead (find_found (λ (x : Stabilisation). x.lead == lead) shared.stabilisations one e).1 in
         finished_image base shared one how image settles none well (is ∙ ap (λ number. image_by base shared.trail number how) (sym led))
         (λ ended. doubt ended ∙ ap (image_with base shared.trail) (sym led))
-
-pub not_some : {X : Type 0} (one : X) → None ≡ Some one → ⊥
-not_some one is = true≢false (sym (ap is_some is))
 
 -- the stored image behind a finish
 pub finish_stored : (state : State) (lead : ℕ) (unfinished : Unfinished) → HasOrderlyStabilisations state → HasStoredImage state

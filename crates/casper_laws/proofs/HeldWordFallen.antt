@@ -27,14 +27,15 @@ use Rattle.casper_model.proofs.LeaveRights.{vanished_spares}
 use Rattle.casper_model.proofs.RunHistory.{base_stays}
 use Rattle.casper_model.proofs.StepRights.{step_rights, stands_at}
 use Rattle.casper_laws.specs.HeldWordSteps.{TheFallenSeeTheSame, TheFallenSeeOn}
-use Rattle.casper_laws.specs.RunFacts.{NotedAreUp}
-use Rattle.casper_laws.proofs.FinishImage.{not_some}
+use Rattle.casper_turns.specs.Noted.{NotedAreUp}
+use Rattle.casper_turns.proofs.Lists.{not_some}
 use Rattle.casper_laws.proofs.HeldWordFalls.{FallsNow, FallsWell, falls_by_none, falls_joined, falls_acquired, falls_served, falls_stabilised, falls_departed, falls_absent, falls_vanished, falls_lose, falls_finish, falls_settled}
 use Rattle.casper_laws.proofs.HeldWordOwn.{others_leave}
 use Rattle.casper_laws.proofs.HeldWords.{sees_as}
-use Rattle.casper_laws.proofs.KeptByTurns.{KeptByTurns, step_keeps}
+use Rattle.casper_turns.proofs.KeptByTurns.{KeptByTurns, step_keeps}
 use Rattle.casper_laws.proofs.RunFacts.{every_run_history}
-use Rattle.casper_laws.proofs.RunFactsNotes.{not_fallen, every_run_notes_the_unfallen}
+use Rattle.casper_turns.proofs.NotedUp.{not_fallen}
+use Rattle.casper_laws.proofs.RunFactsNotes.{every_run_notes_the_unfallen}
 use Rattle.casper_laws.proofs.StepFrozen.{below_places}
 
 -- a state as a step begins

@@ -1,11 +1,10 @@
-use Rattle.std.proofs.Common.{◌≡◌, ◌⊎◌, ◌<◌, ℕ, List, Bool, true, false, cond, ◌==◌, min, length, refl, sym, ap, ◌∙◌, subst, inl, inr, ⊎_elim}
-use Rattle.std.specs.Prelude.{Option, None, Some, option_map, unwrap_or}
+use Rattle.std.proofs.Common.{◌≡◌, ◌⊎◌, ◌<◌, ℕ, List, true, ◌==◌, min, length, refl, sym, ap, ◌∙◌, subst, inl, inr, ⊎_elim}
+use Rattle.std.specs.Prelude.{Option, None, Some}
 use Rattle.std.proofs.lemmas.Bool.{cond_both, cases_eq}
 use Rattle.casper_words.specs.Crew.{has_member}
 use Rattle.casper_words.specs.declared.page.Want.{Want}
 use Rattle.casper_trail.specs.Parts.{live_entries}
 use Rattle.casper_trail.specs.Association.{association_of}
-use Rattle.casper_model.specs.declared.outcome.Kept.{Kept}
 use Rattle.casper_model.specs.declared.outcome.Kept.TheVariants as kept
 use Rattle.casper_model.specs.declared.outcome.Outcome.{Outcome}
 use Rattle.casper_model.specs.declared.outcome.Outcome.TheVariants as outcome
@@ -18,29 +17,21 @@ use Rattle.casper_model.specs.Finish.{finish, finished_by, finished_as, failed, 
 use Rattle.casper_model.specs.Frozen.{stabilisation_of}
 use Rattle.casper_model.specs.Join.{joined_by}
 use Rattle.casper_model.specs.Leave.{served_by, departed_by, absent, vanished_by}
-use Rattle.casper_model.specs.Loss.{lose, lose_by, lost_in, rolled_back, fallen_behind}
+use Rattle.casper_model.specs.Loss.{lose, lose_by, lost_in, rolled_back}
 use Rattle.casper_model.specs.Opening.{opened}
 use Rattle.casper_model.specs.Own.{Own}
-use Rattle.casper_model.specs.Rights.{TurnStands, TurnKeeps}
+use Rattle.casper_model.specs.Rights.{TurnStands}
 use Rattle.casper_model.specs.Room.{most_cap, free_room}
-use Rattle.casper_model.specs.Shared.{Shared, client_at, fallen_at, of_client, place_client}
+use Rattle.casper_model.specs.Shared.{Shared, fallen_at, place_client}
 use Rattle.casper_model.specs.Stabilisation.{Stabilisation, is_gathering}
 use Rattle.casper_model.specs.Stabilise.{stabilised_by}
 use Rattle.casper_model.proofs.AcquireRights.{keeps_acquired, within_places}
-use Rattle.casper_model.proofs.Places.{client_each, client_placed, client_unplaced}
+use Rattle.casper_model.proofs.Places.{client_placed, client_unplaced}
 use Rattle.casper_model.proofs.StabiliseRights.{keeps_by}
 use Rattle.casper_model.proofs.TurnRights.{keeps_served}
-use Rattle.casper_laws.specs.RunFacts.{NotedAreUp}
-use Rattle.casper_laws.proofs.FinishImage.{not_some}
-use Rattle.casper_laws.proofs.Lists.{find_found}
-
--- what is known of the fall of the client at a place
-abbrev fallen_of : Option Client → Option Fallen
-fallen_of place = of_client None (λ client. client.fallen) place
-
--- who is fallen behind a change was so before
-abbrev pub FallsNoMore : Shared → Shared → Type 0
-FallsNoMore shared after = (who : ℕ) (fallen : Fallen) → fallen_at after who ≡ Some fallen → fallen_at shared who ≡ Some fallen
+use Rattle.casper_turns.specs.Noted.{NotedAreUp}
+use Rattle.casper_turns.proofs.Lists.{not_some, find_found}
+use Rattle.casper_turns.proofs.Falls.{FallsNoMore, fallen_of, falls_ended, falls_kept, falls_within}
 
 -- a client falls in the association of one that was lost and is not fallen. It has seen the live entries
 abbrev pub FallsNow : Shared → ℕ → Fallen → Type 0
@@ -54,12 +45,6 @@ FallsWell shared after = (who : ℕ) (fallen : Fallen) → fallen_at after who �
 pub falls_by_none : (shared after : Shared) → FallsNoMore shared after → FallsWell shared after
 falls_by_none shared after less who fallen is = inl (less who fallen is)
 
--- a turn that keeps the others
-falls_kept : (shared : Shared) (own : Own) (after : Shared) (own_after : Own) → TurnKeeps shared own after own_after → FallsNoMore shared after
-falls_kept shared own after own_after keeps who fallen is =
-    ⊎_elim (λ same. absurd (not_some fallen (sym keeps.up ∙ sym (ap (fallen_at after) same) ∙ is)))
-    (λ apart. ap fallen_of (sym (keeps.others who apart)) ∙ is) (cases_eq who own.who)
-
 pub falls_acquired : (wants : List Want) (calls : ℕ) (shared : Shared) (own : Own) → TurnStands shared own
     → FallsNoMore shared (acquired_by shared own wants calls (fallen_at shared own.who)).shared
 falls_acquired wants calls shared own stands = falls_kept shared own _ _ (keeps_acquired wants calls shared own stands (fallen_at shared own.who) refl)
@@ -71,7 +56,7 @@ pub falls_stabilised : (shared : Shared) (own : Own) → TurnStands shared own �
 falls_stabilised shared own stands = falls_kept shared own _ _ (keeps_by shared own stands (fallen_at shared own.who) refl)
 
 -- a client that is absent then, or joins, is not fallen
-falls_placed : (shared : Shared) (who : ℕ) (place : Option Client) → who < length shared.clients → fallen_of place ≡ None → FallsNoMore shared (place_client who place shared)
+pub falls_placed : (shared : Shared) (who : ℕ) (place : Option Client) → who < length shared.clients → fallen_of place ≡ None → FallsNoMore shared (place_client who place shared)
 falls_placed shared who place below up number fallen is =
     ⊎_elim
     (λ same.
@@ -101,45 +86,9 @@ falls_joined shared own None below =
     cond_both (free_room shared == 0) _ _ (λ (turn : Turned (Option JoinRefusal)). FallsNoMore shared turn.shared) (λ full who fallen is. is)
     (λ free. falls_placed shared own.who (Some (new_client (min most_cap (free_room shared)))) below refl)
 
--- a rollback: who is fallen behind it was so before, or is in the association of the lost client
-pub falls_within : (shared : Shared) (lost who : ℕ) (fallen : Fallen) → fallen_at (rolled_back shared lost) who ≡ Some fallen
-    → (fallen_at shared who ≡ Some fallen) ⊎ ((has_member who (association_of shared.trail lost) ≡ true) × (fallen.seen ≡ live_entries shared.trail))
-falls_within shared lost who fallen is = by_place (client_at shared who) refl (sym (ap fallen_of (client_each change shared who)) ∙ is)
-  where
-    members : List ℕ
-    members = association_of shared.trail lost
-
-    change : ℕ → Client → Client
-    change number client = cond (has_member number members) (fallen_behind shared.trail number client) client
-
-    by_member : (client : Client) (member : Bool) → client_at shared who ≡ Some client → has_member who members ≡ member
-        → (cond member (fallen_behind shared.trail who client) client).fallen ≡ Some fallen
-        → (fallen_at shared who ≡ Some fallen) ⊎ ((has_member who members ≡ true) × (fallen.seen ≡ live_entries shared.trail))
-    by_member client true here named fell = inr (named, ap (λ (one : Option Fallen). (unwrap_or one fallen).seen) (sym fell))
-    by_member client false here named fell = inl (ap fallen_of here ∙ fell)
-
-    by_place : (place : Option Client) → client_at shared who ≡ place → fallen_of (option_map (change who) place) ≡ Some fallen
-        → (fallen_at shared who ≡ Some fallen) ⊎ ((has_member who members ≡ true) × (fallen.seen ≡ live_entries shared.trail))
-    by_place None here fell = absurd (not_some fallen fell)
-    by_place (Some client) here fell = by_member client (has_member who members) here refl fell
-
 falls_rolled_back : (shared : Shared) (lost : ℕ) → fallen_at shared lost ≡ None → FallsWell shared (rolled_back shared lost)
 falls_rolled_back shared lost up who fallen is =
     ⊎_elim inl (λ now. inr (lost, now.0, up, now.1)) (falls_within shared lost who fallen is)
-
--- a stabilisation that ends
-pub falls_ended : (shared : Shared) (one : Stabilisation) (outcome : Kept) → FallsNoMore shared (ended shared one outcome)
-falls_ended shared one outcome who fallen is = by_place (client_at shared who) refl (sym (ap fallen_of (client_each change shared who)) ∙ is)
-  where
-    change : ℕ → Client → Client
-    change number client = cond (has_member number one.askers) (record client { kept = Some outcome }) client
-
-    by_place : (place : Option Client) → client_at shared who ≡ place → fallen_of (option_map (change who) place) ≡ Some fallen → fallen_at shared who ≡ Some fallen
-    by_place None here fell = absurd (not_some fallen fell)
-    by_place (Some client) here fell =
-        ap fallen_of here
-        ∙ cond_both (has_member who one.askers) (record client { kept = Some outcome }) client (λ (after : Client). after.fallen ≡ Some fallen → client.fallen ≡ Some fallen)
-        (λ asks same. same) (λ no same. same) fell
 
 falls_lost : (shared : Shared) (who unrecorded : ℕ) (one : Option Stabilisation) → fallen_at shared who ≡ None → FallsWell shared (lost_in shared who unrecorded one).shared
 falls_lost shared who unrecorded None up = falls_rolled_back shared who up

@@ -25,13 +25,12 @@ use Rattle.casper_model.specs.Turn.{Turn, within, is_in_range}
 use Rattle.casper_model.specs.View.{view, value_seen}
 use Rattle.casper_model.proofs.StateHistory.{in_owns, set_own}
 use Rattle.casper_model.proofs.StepRights.{ordered_acquire}
-use Rattle.casper_laws.specs.HeldWordSteps.{is_ok}
+use Rattle.casper_laws.specs.HeldWordSteps.{is_ok, EveryReadIsOfWhatIsSeen, EveryWriteIsSeen}
 use Rattle.casper_laws.proofs.HeldWordTurns.{seen_with_call}
 use Rattle.casper_laws.proofs.RunFacts.{every_run_history}
 use Rattle.casper_model.specs.Answers.{of_reply}
 use Rattle.casper_model.specs.declared.reply.Reply.{Reply}
 use Rattle.casper_model.specs.declared.reply.Reply.TheVariants as reply
-use Rattle.casper_laws.specs.HeldWordSteps.{EveryReadIsOfWhatIsSeen, EveryWriteIsSeen}
 use Rattle.casper_laws.proofs.HeldWordCalls.{guarded_turn, called}
 
 -- the value that an answer gives

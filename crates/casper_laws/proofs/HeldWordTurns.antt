@@ -40,7 +40,7 @@ use Rattle.casper_model.proofs.TurnRights.{up_as_it_stands}
 use Rattle.casper_model.proofs.TurnHistory.{Records}
 use Rattle.casper_laws.specs.OwnLists.{IsStanding}
 use Rattle.casper_laws.specs.RunFacts.{HoldsPage}
-use Rattle.casper_laws.proofs.Lists.{nothing_in}
+use Rattle.casper_turns.proofs.Lists.{nothing_in}
 use Rattle.casper_laws.proofs.RunFacts.{good_standing}
 use Rattle.casper_laws.proofs.HeldWords.{up_standing, sees_own, words_before, writer_is_alone}
 

@@ -21,7 +21,7 @@ use Rattle.casper_model.proofs.RunHistory.{base_after}
 use Rattle.casper_laws.specs.OwnLists.{IsStanding}
 use Rattle.casper_laws.specs.RunFacts.{HoldsPage}
 use Rattle.casper_laws.specs.HeldWords.{SeesLiveAndOwn, SeesLiveWords, PendingWritesAreAlone, HoldersSeeTheSame, EveryRunKeepsItsArray, EveryRunShowsLiveAndOwn, EveryRunShowsLiveWords, EveryPendingWriteIsAlone, EveryRunShowsHoldersTheSame}
-use Rattle.casper_laws.proofs.Lists.{contains_mapped, filter_nothing}
+use Rattle.casper_turns.proofs.Lists.{contains_mapped, filter_nothing}
 use Rattle.casper_laws.proofs.RunFacts.{good_standing, every_run_history}
 
 -- who stands has not fallen, and sees the live entries and its own calls

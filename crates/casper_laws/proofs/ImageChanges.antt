@@ -35,10 +35,11 @@ use Rattle.casper_model.specs.Growth.{AddsOwn}
 use Rattle.casper_model.specs.LegalHistory.{IsGoodNow}
 use Rattle.casper_model.proofs.Entries.{added_by, writes_added}
 use Rattle.std.proofs.lemmas.List.{map-append}
-use Rattle.casper_laws.specs.FrozenLaws.{AreFrozen, IsSealedBy, OneIsUnfinished, AreWriteOutsInOrder, HasOrderlyStabilisations}
+use Rattle.casper_turns.specs.Frozen.{AreFrozen, IsSealedBy}
+use Rattle.casper_laws.specs.FrozenLaws.{OneIsUnfinished, AreWriteOutsInOrder, HasOrderlyStabilisations}
 use Rattle.casper_laws.specs.StoredImage.{image_by, image_due, HasStoredImage}
-use Rattle.casper_laws.proofs.Lists.{contains_map, any_none, filter_nothing, filter_filtered}
-use Rattle.casper_laws.proofs.FrozenChanges.{IsDoubtfulBy, IsHeldBy, LeavesWriteOuts}
+use Rattle.casper_turns.proofs.Lists.{contains_map, any_none, filter_nothing, filter_filtered}
+use Rattle.casper_turns.proofs.FrozenChanges.{IsDoubtfulBy, IsHeldBy, LeavesWriteOuts}
 
 -- the pages that the association of a lead has modified
 abbrev pub pages_of_lead : List Item → ℕ → List ℕ

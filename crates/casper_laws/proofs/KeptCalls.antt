@@ -23,7 +23,7 @@ use Rattle.casper_model.proofs.StateHistory.{in_owns, set_own, other_own}
 use Rattle.casper_model.proofs.StepRights.{step_rights}
 use Rattle.casper_model.proofs.RunRights.{start_in_order, every_run_rights, blank_at}
 use Rattle.casper_laws.specs.OwnLists.{ArePendingCalls, EachStepKeepsPendingCalls, EveryRunHasPendingCalls, EveryAbsentClientHasNothingPending}
-use Rattle.casper_laws.proofs.KeptByTurns.{KeptByTurns, step_keeps, run_keeps}
+use Rattle.casper_turns.proofs.KeptByTurns.{KeptByTurns, step_keeps, run_keeps}
 use Rattle.casper_laws.proofs.PendingSteps.{Empties, acquire_empties, serve_empties, stabilise_empties, depart_empties}
 
 -- reads and writes alone

@@ -22,7 +22,7 @@ use Rattle.casper_laws.specs.Additions.{commit_mark, rollback_mark, mark_of, fin
 use Rattle.casper_laws.proofs.CompletedCalls.{guarded_turn}
 use Rattle.casper_laws.proofs.ExactAdditions.{none_added}
 use Rattle.casper_laws.proofs.OwnListSteps.{picked, passed}
-use Rattle.casper_laws.proofs.Lists.{find_found}
+use Rattle.casper_turns.proofs.Lists.{find_found}
 
 -- what a loss adds, by vanishing or by being declared lost
 lost_adds : (shared : Shared) (who unrecorded : ℕ) (one : Option Stabilisation) → fallen_at shared who ≡ None

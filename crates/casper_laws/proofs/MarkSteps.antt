@@ -1,14 +1,12 @@
-use Rattle.std.proofs.Common.{◌≡◌, ◌≤◌, ◌+◌, ℕ, List, [], ◌∷◌, Bool, true, false, ◌==◌, not, ap, ◌∙◌, subst, arith}
+use Rattle.std.proofs.Common.{◌≡◌, ◌≤◌, ◌+◌, ℕ, List, [], ◌∷◌, Bool, true, false, ◌==◌, not, ap, ◌∙◌, subst, arith, Contains, refl}
 use Rattle.std.proofs.Math.Nat.{le-max_right}
 use Rattle.std.specs.Prelude.{Option, None, Some, ⊤}
 use Rattle.casper_trail.specs.declared.item.Item.{Item}
-use Rattle.casper_space.specs.declared.answer.Answer.TheVariants as answer
 use Rattle.casper_model.specs.declared.event.Event.{Event}
-use Rattle.casper_model.specs.declared.event.Event.TheVariants as event
 use Rattle.casper_model.specs.Growth.{AddsMark}
 use Rattle.casper_model.specs.Shared.{Shared, fallen_at, is_live}
-use Rattle.casper_model.specs.Stabilisation.{Stabilisation}
-use Rattle.casper_model.specs.Finish.{doubtful_of}
+use Rattle.casper_model.specs.Stabilisation.{Stabilisation, is_doubtful}
+use Rattle.casper_model.specs.Finish.{doubtful_of, finish, finished_by, finished_as, failed, settled, settled_by, stabilisation_led_by}
 use Rattle.casper_model.specs.Outside.{Outside, is_settle_failed}
 use Rattle.casper_model.specs.Vault.{VaultState}
 use Rattle.casper_model.specs.State.{State, Unfinished, own_at, start}
@@ -23,13 +21,55 @@ use Rattle.casper_model.proofs.StepAdditions.{step_adds}
 use Rattle.casper_model.proofs.StepRights.{stands_at}
 use Rattle.casper_model.proofs.RunHistory.{guarded_history, start_history, step_history}
 use Rattle.casper_laws.specs.FrozenLaws.{HasOrderlyStabilisations}
-use Rattle.casper_laws.specs.MarkRoom.{mark_count, marks_due, may_take_memory, MarksAreDue, NotedAreMembers, room_behind, room_after_step, mark_room_after, EachStepKeepsNotedMembers, EachStepRecordsMarksThatAreDue, EveryRunKeepsRoomForMarks, EveryMarkHasItsRoom}
-use Rattle.casper_laws.proofs.Lists.{nothing_in}
-use Rattle.casper_laws.proofs.KeptByTurns.{KeptByTurns, step_keeps}
-use Rattle.casper_laws.proofs.MarkCounts.{marks_pushed, marks_of_own}
-use Rattle.casper_laws.proofs.MarkChanges.{RecordsNoMore, records_nothing, finish_records, settled_records, lose_records, vanish_records}
-use Rattle.casper_laws.proofs.NotedMembers.{acquire_members, serve_members, stabilise_members, depart_members, join_members, finish_members, settled_members, lose_members, vanish_members}
+use Rattle.casper_turns.specs.MarkRoom.{mark_count, marks_due, RecordsNoMore}
+use Rattle.casper_laws.specs.MarkRoom.{may_take_memory, MarksAreDue, room_behind, room_after_step, mark_room_after, EachStepKeepsNotedMembers, EachStepRecordsMarksThatAreDue, EveryRunKeepsRoomForMarks, EveryMarkHasItsRoom}
+use Rattle.casper_turns.specs.Noted.{NotedAreMembers}
+use Rattle.casper_turns.proofs.Lists.{nothing_in, find_found}
+use Rattle.casper_turns.proofs.KeptByTurns.{KeptByTurns, step_keeps}
+use Rattle.casper_turns.proofs.MarkCounts.{marks_pushed, marks_of_own}
+use Rattle.casper_turns.proofs.MarkChanges.{records_nothing, lose_records, vanish_records, ends_its_stabilisation, committed_records, ended_records, relabelled_records}
+use Rattle.casper_laws.proofs.NotedMembers.{acquire_members, serve_members, stabilise_members, depart_members, join_members, vanish_members, finish_members, settled_members}
+use Rattle.casper_turns.proofs.NotedMembers.{lose_members}
 use Rattle.casper_laws.proofs.StepFrozen.{named, step_orderly, start_orderly}
+use Rattle.casper_words.specs.Crew.{has_member}
+use Rattle.casper_trail.proofs.Rounds.{association_holds_its_client, association_of_a_member}
+use Rattle.casper_model.specs.declared.outcome.Outcome.{Outcome}
+use Rattle.casper_turns.specs.Frozen.{AreFrozen}
+use Rattle.casper_space.specs.declared.answer.Answer.TheVariants as answer
+use Rattle.casper_model.specs.declared.event.Event.TheVariants as event
+use Rattle.casper_model.specs.declared.outcome.Outcome.TheVariants as outcome
+
+-- where a loss was noted, its rollback ends the stabilisation, which had the room of its final mark
+failed_records : (shared : Shared) (one : Stabilisation) (cause : Outcome) (noted : Option ℕ) → one.noted ≡ noted → AreFrozen shared → NotedAreMembers shared
+    → Contains shared.stabilisations one → RecordsNoMore shared (failed shared one cause noted).shared
+failed_records shared one cause None e frozen members inside = ended_records shared one _
+failed_records shared one cause (Some lost) e frozen members inside =
+    ends_its_stabilisation shared lost one inside
+    (ap (has_member one.lead) (association_of_a_member shared.trail one.lead lost (members one lost inside e))
+    ∙ association_holds_its_client shared.trail one.lead (frozen.leads one inside))
+
+finished_records : (shared : Shared) (one : Stabilisation) (how : Outcome) → AreFrozen shared → NotedAreMembers shared → Contains shared.stabilisations one
+    → RecordsNoMore shared (finished_as shared one how).shared
+finished_records shared one (outcome.Ok version) frozen members inside = committed_records shared one inside
+finished_records shared one (outcome.Full need free) frozen members inside = failed_records shared one (outcome.Full need free) one.noted refl frozen members inside
+finished_records shared one outcome.Worn frozen members inside = failed_records shared one outcome.Worn one.noted refl frozen members inside
+finished_records shared one outcome.Disk frozen members inside = failed_records shared one outcome.Disk one.noted refl frozen members inside
+finished_records shared one outcome.Doubt frozen members inside = relabelled_records shared _
+
+pub finish_records : (shared : Shared) (lead : ℕ) (how : Outcome) → AreFrozen shared → NotedAreMembers shared → RecordsNoMore shared (finish shared lead how).shared
+finish_records shared lead how frozen members = by_found (stabilisation_led_by shared lead) refl
+  where
+    by_found : (one : Option Stabilisation) → stabilisation_led_by shared lead ≡ one → RecordsNoMore shared (finished_by shared how one).shared
+    by_found None e = records_nothing shared
+    by_found (Some one) e =
+        finished_records shared one how frozen members (find_found (λ (x : Stabilisation). x.lead == lead) shared.stabilisations one e).0
+
+pub settled_records : (shared : Shared) → RecordsNoMore shared (settled shared).shared
+settled_records shared = by_found (doubtful_of shared) refl
+  where
+    by_found : (one : Option Stabilisation) → doubtful_of shared ≡ one → RecordsNoMore shared (settled_by shared one).shared
+    by_found None e = records_nothing shared
+    by_found (Some one) e = committed_records shared one (find_found (λ (x : Stabilisation). is_doubtful x.phase) shared.stabilisations one e).0
 
 -- each step keeps the notes of members
 noted_by_turns : KeptByTurns (λ state. ⊤) HasOrderlyStabilisations (λ state. NotedAreMembers state.shared)

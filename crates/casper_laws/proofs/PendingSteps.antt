@@ -29,7 +29,7 @@ use Rattle.casper_model.proofs.StepRights.{step_rights}
 use Rattle.casper_model.proofs.RunRights.{start_in_order, every_run_rights}
 use Rattle.casper_model.proofs.RunHistory.{start_history, run_history}
 use Rattle.casper_laws.specs.PendingLaws.{ArePendingListsShort, HasTheCap, EachStepKeepsPendingListsShort, EveryRunKeepsPendingListsShort, EveryRunKeepsCapsInAgreement, EveryRunHasRightsForPendingCalls}
-use Rattle.casper_laws.proofs.KeptByTurns.{KeptByTurns, step_keeps, run_keeps}
+use Rattle.casper_turns.proofs.KeptByTurns.{KeptByTurns, step_keeps, run_keeps}
 
 -- at most 4,096 calls are pending
 abbrev IsShort : Own → Type 0

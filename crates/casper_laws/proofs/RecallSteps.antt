@@ -28,7 +28,7 @@ use Rattle.casper_model.proofs.TurnRights.{rights_known}
 use Rattle.casper_model.proofs.RunRights.{every_run_rights}
 use Rattle.casper_model.specs.Run.{state_after}
 use Rattle.casper_laws.specs.RecallLaws.{MeetsTheAsks, EachServeMeetsTheAsks, EveryServeMeetsTheAsks}
-use Rattle.casper_laws.proofs.Lists.{any_found, any_of, contains_filter}
+use Rattle.casper_turns.proofs.Lists.{any_found, contains_filter, any_of}
 
 -- each client is among them all
 among_clients : (who : ℕ) → IsClient who → Contains clients who

@@ -8,11 +8,11 @@ use Rattle.casper_model.specs.Run.{state_after}
 use Rattle.casper_model.specs.LegalHistory.{HasHistory, IsGoodNow}
 use Rattle.casper_model.proofs.StateHistory.{good_now}
 use Rattle.casper_model.proofs.RunHistory.{start_history, step_history, run_history}
-use Rattle.casper_laws.specs.MarkRoom.{NotedAreMembers}
+use Rattle.casper_turns.specs.Noted.{NotedAreMembers}
 use Rattle.casper_laws.specs.OwnLists.{IsStanding}
 use Rattle.casper_laws.specs.RunFacts.{HoldersAreWithWriters, EveryRunHasHistory, EveryEntryIsOfAClient, EveryHolderIsWithItsWriters, EveryRunNotesMembers}
-use Rattle.casper_laws.proofs.Lists.{nothing_in}
-use Rattle.casper_laws.proofs.KeptByTurns.{run_keeps}
+use Rattle.casper_turns.proofs.Lists.{nothing_in}
+use Rattle.casper_turns.proofs.KeptByTurns.{run_keeps}
 use Rattle.casper_laws.proofs.StepFrozen.{start_orderly, step_orderly}
 use Rattle.casper_laws.proofs.MarkSteps.{step_noted}
 use Rattle.casper_laws.proofs.StepImage.{IsOrderly}

@@ -26,13 +26,14 @@ use Rattle.casper_model.specs.State.{State, Unfinished, start}
 use Rattle.casper_model.specs.Vault.{VaultState, commit, refused_at_once, written_unless, written_with, settled_with, settled_vault}
 use Rattle.casper_model.specs.WriteOutStep.{busy_lead, changes_of, written_out, finish_turn, settle_turn}
 use Rattle.casper_model.proofs.RunHistory.{start_history, step_history}
-use Rattle.casper_laws.specs.FrozenLaws.{AreFrozen, IsSealedBy, AreWriteOutsInOrder, HasOrderlyStabilisations, OneIsUnfinished, is_any_doubtful, ended_in_doubt}
+use Rattle.casper_turns.specs.Frozen.{AreFrozen, IsSealedBy}
+use Rattle.casper_laws.specs.FrozenLaws.{is_any_doubtful, ended_in_doubt, AreWriteOutsInOrder, HasOrderlyStabilisations, OneIsUnfinished}
 use Rattle.casper_laws.specs.StoredImage.{HasStoredImage, image_due}
 use Rattle.casper_laws.specs.RunFacts.{AreOfTheBusyLead, DoubtIsOfOneLead, EveryDoubtIsOfOneLead}
-use Rattle.casper_laws.proofs.Lists.{nothing_in, any_found, any_of, none_passes, find_found, find_none, map_alike}
-use Rattle.casper_laws.proofs.KeptByTurns.{KeptByTurns, step_keeps, run_keeps}
+use Rattle.casper_turns.proofs.Lists.{nothing_in, any_found, none_passes, find_found, find_none, map_alike, not_some, any_of}
+use Rattle.casper_turns.proofs.KeptByTurns.{KeptByTurns, step_keeps, run_keeps}
 use Rattle.casper_laws.proofs.FinishFrozen.{finish_well, idle_before, settled_has_no_doubt}
-use Rattle.casper_laws.proofs.FinishImage.{doubted_lead, not_some}
+use Rattle.casper_laws.proofs.FinishImage.{doubted_lead}
 use Rattle.casper_laws.proofs.ImageChanges.{pages_of_lead}
 use Rattle.casper_laws.proofs.StepFrozen.{start_orderly, step_orderly}
 use Rattle.casper_laws.proofs.StepImage.{IsOrderly, LeavesBoth, join_leaves, acquire_leaves, serve_leaves, stabilise_leaves, depart_leaves, vanish_leaves, lose_leaves, start_stored, step_stored}

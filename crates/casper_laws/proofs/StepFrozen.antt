@@ -19,11 +19,14 @@ use Rattle.casper_model.proofs.StateHistory.{good_now, rights_as_held}
 use Rattle.casper_model.proofs.RunHistory.{start_history, step_history, run_history}
 use Rattle.casper_model.proofs.StepRights.{stands_at}
 use Rattle.casper_laws.specs.FrozenLaws.{HasOrderlyStabilisations, StartsWithoutStabilisations, EachStepKeepsStabilisationsInOrder, EveryRunKeepsStabilisationsInOrder, IsSilent, EveryRunKeepsHeldAssociationsSilent}
-use Rattle.casper_laws.proofs.Lists.{nothing_in}
-use Rattle.casper_laws.proofs.KeptByTurns.{KeptByTurns, step_keeps, run_keeps}
-use Rattle.casper_laws.proofs.FrozenChanges.{StaysFrozen, stays_itself, write_outs_left}
+use Rattle.casper_turns.specs.Good.{MayRecord}
+use Rattle.casper_turns.proofs.Lists.{nothing_in}
+use Rattle.casper_turns.proofs.KeptByTurns.{KeptByTurns, step_keeps, run_keeps}
+use Rattle.casper_turns.proofs.FrozenChanges.{StaysFrozen, stays_itself}
+use Rattle.casper_laws.proofs.WriteOutsLeft.{write_outs_left}
 use Rattle.casper_laws.proofs.TurnFrozen.{acquire_stays, serve_stays}
-use Rattle.casper_laws.proofs.LeaveFrozen.{stabilise_stays, depart_stays, vanish_stays, lose_stays, join_stays}
+use Rattle.casper_laws.proofs.LeaveFrozen.{stabilise_stays, depart_stays, vanish_stays, join_stays}
+use Rattle.casper_turns.proofs.LeaveFrozen.{lose_stays}
 use Rattle.casper_laws.proofs.FinishFrozen.{finish_order, settle_order, write_out_order}
 
 pub named : (state : State) (who : ℕ) → InOrder state → IsClient who → IsClient (own_at state who).who
@@ -33,6 +36,10 @@ pub good_if_up : (state : State) (who : ℕ) → HasHistory state → IsUp state
 good_if_up state who sound is =
     good_now state.base state.shared.trail (client_at state.shared who) (own_at state who) is.client (sound.history.good who)
     (subst (λ number. client_at state.shared number ≡ Some is.client) (sound.order.shaped.numbers who) is.live) is.up
+
+-- so it may record its calls
+pub recording_if_up : (state : State) (who : ℕ) → HasHistory state → IsUp state.shared (own_at state who).who → MayRecord state.shared.trail (own_at state who)
+recording_if_up state who sound is = let good = good_if_up state who sound is in record { held = good.held; writers = good.writers }
 
 -- behind a turn that leaves the stabilisations in order
 orderly_after : (state : State) (after : Shared) (own : Own) → HasOrderlyStabilisations state → StaysFrozen state.shared after
@@ -55,17 +62,17 @@ orderly_by_turns = record {
   acquiring = λ state who wants calls is live sound orderly.
       let own = own_at state who in
       orderly_after state (acquire state.shared own wants calls).shared (acquire state.shared own wants calls).own orderly
-      (acquire_stays state.base wants calls state.shared own (named state who sound.order is) (stands_at state who sound.order live) (good_if_up state who sound)
+      (acquire_stays wants calls state.shared own (named state who sound.order is) (stands_at state who sound.order live) (recording_if_up state who sound)
       sound.exact.clients orderly.frozen);
   serving = λ state who is live sound orderly.
       orderly_after state _ _ orderly
-      (serve_stays state.base state.shared (own_at state who) (named state who sound.order is) (stands_at state who sound.order live) (good_if_up state who sound) orderly.frozen);
+      (serve_stays state.shared (own_at state who) (named state who sound.order is) (stands_at state who sound.order live) (recording_if_up state who sound) orderly.frozen);
   stabilising = λ state who is live sound orderly.
       orderly_after state _ _ orderly
-      (stabilise_stays state.base state.shared (own_at state who) (named state who sound.order is) (stands_at state who sound.order live) (good_if_up state who sound) orderly.frozen);
+      (stabilise_stays state.shared (own_at state who) (named state who sound.order is) (stands_at state who sound.order live) (recording_if_up state who sound) orderly.frozen);
   departing = λ state who is live sound orderly.
       orderly_after state _ _ orderly
-      (depart_stays state.base state.shared (own_at state who) (named state who sound.order is) (stands_at state who sound.order live) (good_if_up state who sound) orderly.frozen);
+      (depart_stays state.shared (own_at state who) (named state who sound.order is) (stands_at state who sound.order live) (recording_if_up state who sound) orderly.frozen);
   vanishing = λ state who is live sound orderly.
       orderly_after state _ _ orderly
       (vanish_stays state.shared (own_at state who) (named state who sound.order is) (stands_at state who sound.order live) orderly.frozen);

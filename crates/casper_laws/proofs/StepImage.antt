@@ -32,14 +32,16 @@ use Rattle.casper_model.proofs.StepAdditions.{step_adds}
 use Rattle.casper_model.proofs.TurnRights.{up_as_it_stands, rights_are_held}
 use Rattle.casper_model.proofs.StepRights.{stands_at}
 use Rattle.casper_model.proofs.RunHistory.{start_history, step_history, base_after}
-use Rattle.casper_laws.specs.FrozenLaws.{AreFrozen, IsSealedBy, HasOrderlyStabilisations}
+use Rattle.casper_turns.specs.Frozen.{AreFrozen, IsSealedBy}
+use Rattle.casper_laws.specs.FrozenLaws.{HasOrderlyStabilisations}
 use Rattle.casper_laws.specs.StoredImage.{image_due, HasStoredImage, StartsWithItsImage, EachStepKeepsTheImage, EveryRunKeepsTheImage, EveryQuietMomentHasTheStableImage, EveryWrittenImageHasItsAssociation}
-use Rattle.casper_laws.proofs.Lists.{nothing_in, contains_filter}
-use Rattle.casper_laws.proofs.KeptByTurns.{KeptByTurns, step_keeps, run_keeps}
-use Rattle.casper_laws.proofs.FrozenChanges.{IsDoubtfulBy, StaysFrozen, LeavesWriteOuts, stays_itself}
+use Rattle.casper_turns.proofs.Lists.{nothing_in, contains_filter}
+use Rattle.casper_turns.proofs.KeptByTurns.{KeptByTurns, step_keeps, run_keeps}
+use Rattle.casper_turns.proofs.FrozenChanges.{IsDoubtfulBy, StaysFrozen, LeavesWriteOuts, stays_itself}
 use Rattle.casper_laws.proofs.TurnFrozen.{acquire_stays, serve_stays}
-use Rattle.casper_laws.proofs.LeaveFrozen.{stabilise_stays, depart_stays, lost_in_stays, vanish_stays, join_stays}
-use Rattle.casper_laws.proofs.StepFrozen.{named, good_if_up, below_places, start_orderly, step_orderly}
+use Rattle.casper_laws.proofs.LeaveFrozen.{stabilise_stays, depart_stays, vanish_stays, join_stays}
+use Rattle.casper_turns.proofs.LeaveFrozen.{lost_in_stays}
+use Rattle.casper_laws.proofs.StepFrozen.{named, good_if_up, recording_if_up, below_places, start_orderly, step_orderly}
 use Rattle.casper_laws.proofs.ImageChanges.{LeavesImages, leaves_same, own_leaves, rollback_leaves, image_left}
 use Rattle.casper_laws.proofs.FinishImage.{finish_stored, settle_stored, write_out_stored}
 
@@ -134,28 +136,28 @@ module _ (state : State) (who : ℕ) (is : IsClient who) (known : IsOrderly stat
     pub acquire_leaves : (wants : List Want) (calls : ℕ) → LeavesBoth state.base state.shared (acquire state.shared (own_at state who) wants calls).shared
     acquire_leaves wants calls =
         turn_leaves state who (acquired_by state.shared own wants calls) live known
-        (acquire_stays state.base wants calls state.shared own (named state who known.history.order is) (stands_at state who known.history.order live)
-        (good_if_up state who known.history) known.history.exact.clients known.orderly.frozen)
+        (acquire_stays wants calls state.shared own (named state who known.history.order is) (stands_at state who known.history.order live)
+        (recording_if_up state who known.history) known.history.exact.clients known.orderly.frozen)
         (λ fallen. refl) (acquire_adds wants calls state.shared own)
 
     pub serve_leaves : LeavesBoth state.base state.shared (serve state.shared (own_at state who)).shared
     serve_leaves =
         turn_leaves state who (served_by state.shared own) live known
-        (serve_stays state.base state.shared own (named state who known.history.order is) (stands_at state who known.history.order live) (good_if_up state who known.history)
+        (serve_stays state.shared own (named state who known.history.order is) (stands_at state who known.history.order live) (recording_if_up state who known.history)
         known.orderly.frozen)
         (λ fallen. refl) (serve_adds state.shared own)
 
     pub stabilise_leaves : LeavesBoth state.base state.shared (stabilise state.shared (own_at state who)).shared
     stabilise_leaves =
         turn_leaves state who (stabilised_by state.shared own) live known
-        (stabilise_stays state.base state.shared own (named state who known.history.order is) (stands_at state who known.history.order live)
-        (good_if_up state who known.history) known.orderly.frozen)
+        (stabilise_stays state.shared own (named state who known.history.order is) (stands_at state who known.history.order live)
+        (recording_if_up state who known.history) known.orderly.frozen)
         (λ fallen. refl) (stabilise_adds state.shared own)
 
     pub depart_leaves : LeavesBoth state.base state.shared (depart state.shared (own_at state who)).shared
     depart_leaves =
         turn_leaves state who (departed_by state.shared own) live known
-        (depart_stays state.base state.shared own (named state who known.history.order is) (stands_at state who known.history.order live) (good_if_up state who known.history)
+        (depart_stays state.shared own (named state who known.history.order is) (stands_at state who known.history.order live) (recording_if_up state who known.history)
         known.orderly.frozen)
         (λ fallen. refl) (depart_adds state.shared own)
 

@@ -16,8 +16,8 @@ use Rattle.casper_trail.proofs.Rounds.{association_of_a_member, association_hold
 use Rattle.casper_space.specs.Rising.{with_number, with_numbers, rising}
 use Rattle.casper_model.specs.Frozen.{is_modified_by, open_writes_of, pages_modified_by}
 use Rattle.casper_space.specs.Changes.{Change, with_changes}
-use Rattle.casper_laws.proofs.Lists.{any_found, any_of, same_any, contains_map, contains_mapped, contains_filter, contains_filtered}
-use Rattle.casper_laws.proofs.Touches.{writer_is_out}
+use Rattle.casper_turns.proofs.Lists.{any_found, same_any, contains_map, contains_mapped, contains_filter, contains_filtered, any_of}
+use Rattle.casper_turns.proofs.Touches.{writer_is_out}
 
 -- changes of pages, each to words of its own
 abbrev pub changes_to : (ℕ → List ℕ) → List ℕ → List Change

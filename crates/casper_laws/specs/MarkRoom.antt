@@ -1,41 +1,19 @@
-use Rattle.std.specs.Prelude.{◌≡◌, ◌≤◌, ◌+◌, ◌-◌, ℕ, List, [], ◌∷◌, Bool, true, false, length, max, sum_by, Option, None, Some, Contains}
-use Rattle.casper_trail.specs.declared.item.Item.{Item}
-use Rattle.casper_trail.specs.TrailView.{commit_count, rollback_count}
+use Rattle.std.specs.Prelude.{◌≡◌, ◌≤◌, ◌+◌, ◌-◌, ℕ, List, [], ◌∷◌, Bool, true, false, max, None}
 use Rattle.casper_model.specs.declared.event.Event.{Event}
 use Rattle.casper_model.specs.declared.event.Event.TheVariants as event
-use Rattle.casper_model.specs.Client.{Client, Fallen}
-use Rattle.casper_model.specs.Frozen.{is_member}
 use Rattle.casper_model.specs.Outside.{Outside}
 use Rattle.casper_model.specs.Rights.{InOrder, NamesClients, AllNameClients}
 use Rattle.casper_model.specs.Run.{Happening, state_after}
-use Rattle.casper_model.specs.Shared.{Shared, of_client}
-use Rattle.casper_model.specs.Stabilisation.{Stabilisation}
+use Rattle.casper_model.specs.Shared.{Shared}
 use Rattle.casper_model.specs.State.{State, start}
 use Rattle.casper_model.specs.Step.{step}
 use Rattle.casper_model.specs.Vault.{VaultState}
 use Rattle.casper_laws.specs.FrozenLaws.{HasOrderlyStabilisations}
+use Rattle.casper_turns.specs.Noted.{NotedAreMembers}
+use Rattle.casper_turns.specs.MarkRoom.{mark_count, marks_due, RecordsNoMore}
 
 -- Which marks may still come before memory can be taken again, and that the room for them is there. A join and a
 -- client's turn may take memory; a write-out's finish, a settle and a loss may not, and they alone record marks.
-
-abbrev pub mark_count : List Item → ℕ
-mark_count items = commit_count items + rollback_count items
-
--- a client that is not fallen has one spare mark, for its loss. A fallen one has none: it is not lost again
-abbrev pub spare_of : Option Fallen → ℕ
-spare_of None = 1
-spare_of (Some fallen) = 0
-
-abbrev pub spare_at : Option Client → ℕ
-spare_at place = of_client 0 (λ client. spare_of client.fallen) place
-
--- one for each live client that is not fallen
-abbrev pub spare_marks : Shared → ℕ
-spare_marks shared = sum_by spare_at shared.clients
-
--- the marks that may come before memory can be taken again: the spare ones, and the final mark of each stabilisation
-abbrev pub marks_due : Shared → ℕ
-marks_due shared = spare_marks shared + length shared.stabilisations
 
 -- whether the step of an event is a join or a client's turn
 abbrev pub may_take_memory : Event → Bool
@@ -55,11 +33,7 @@ may_take_memory (event.Lose who) = false
 -- what a step may record of marks: none where it may take memory, and otherwise no more than it leaves fewer due
 abbrev pub MarksAreDue : Bool → Shared → Shared → Type 0
 MarksAreDue true shared after = mark_count after.trail ≡ mark_count shared.trail
-MarksAreDue false shared after = mark_count after.trail + marks_due after ≤ mark_count shared.trail + marks_due shared
-
--- each loss that is noted is of a member of the association
-abbrev pub NotedAreMembers : Shared → Type 0
-NotedAreMembers shared = (one : Stabilisation) (lost : ℕ) → Contains shared.stabilisations one → one.noted ≡ Some lost → is_member shared lost one ≡ true
+MarksAreDue false shared after = RecordsNoMore shared after
 
 abbrev pub EachStepKeepsNotedMembers : Type 0
 EachStepKeepsNotedMembers =

@@ -9,7 +9,6 @@ use Rattle.casper_trail.specs.Association.{association_of}
 use Rattle.casper_trail.specs.Image.{image_with}
 use Rattle.casper_space.specs.Changes.{Change, with_changes}
 use Rattle.casper_model.specs.Held.{allows}
-use Rattle.casper_model.specs.Shared.{Shared, fallen_at}
 use Rattle.casper_model.specs.Stabilisation.{Stabilisation}
 use Rattle.casper_model.specs.Vault.{VaultState}
 use Rattle.casper_model.specs.State.{State, own_at, start}
@@ -18,7 +17,7 @@ use Rattle.casper_model.specs.Run.{Happening, state_after}
 use Rattle.casper_model.specs.Rights.{AllNameClients}
 use Rattle.casper_model.specs.LegalHistory.{HasHistory}
 use Rattle.casper_laws.specs.OwnLists.{IsStanding}
-use Rattle.casper_laws.specs.MarkRoom.{NotedAreMembers}
+use Rattle.casper_turns.specs.Noted.{NotedAreMembers, NotedAreUp}
 
 -- a fact of states holds at every moment of every run, whatever the outside does
 abbrev pub AtEveryMoment : (State → Type 0) → Type 0
@@ -35,10 +34,6 @@ abbrev pub HoldersAreWithWriters : State → Type 0
 HoldersAreWithWriters state =
     (who page : ℕ) (write : Entry) → HoldsPage state who page → Contains (open_entries state.shared.trail) write → writes_page page write ≡ true
     → (has_member write.who (association_of state.shared.trail who) ≡ true) × (has_member who (association_of state.shared.trail write.who) ≡ true)
-
--- each loss that is noted is of a client that is not fallen
-abbrev pub NotedAreUp : Shared → Type 0
-NotedAreUp shared = (one : Stabilisation) (lost : ℕ) → Contains shared.stabilisations one → one.noted ≡ Some lost → fallen_at shared lost ≡ None
 
 -- changes are those of the association of one lead, which has a stabilisation and whose write-out is unfinished or in
 -- doubt, and they make of the vault's image that with this association

@@ -115,7 +115,7 @@ roomy_same shared own own_after roomy who cap = record {
 }
 
 -- an opening
-first_roomy : (shared : Shared) (own : Own) → IsRoomy shared own → length own.pending ≤ own.cap
+pub first_roomy : (shared : Shared) (own : Own) → IsRoomy shared own → length own.pending ≤ own.cap
     → IsRoomy (recorded (kept_dropped own.who shared) own).shared (recorded (kept_dropped own.who shared) own).own
 first_roomy shared own roomy pending =
     let drop : Client → Client = λ client. record client { kept = None } in
@@ -141,7 +141,7 @@ first_roomy shared own roomy pending =
       within = omega (arith, caps, same, count, pending, roomy.within);
     }
 
-topped_roomy : (both : Both) → IsRoomy both.shared both.own → IsRoomy (topped_up both).shared (topped_up both).own
+pub topped_roomy : (both : Both) → IsRoomy both.shared both.own → IsRoomy (topped_up both).shared (topped_up both).own
 topped_roomy both roomy =
     let after = topped_up both in
     let caps : all_caps after.shared + both.own.cap ≡ all_caps both.shared + after.own.cap = caps_agreed both.shared both.own after.own roomy.known roomy.below refl in

@@ -76,7 +76,7 @@ granted_within wants missing both roomy enough =
     let caps_are : all_caps touched ≡ all_caps both.shared = refl in
     omega (arith, caps, caps_are, count, enough, roomy.within)
 
-answered_within : (both : Both) (given : List ℕ) (wants missing : List Want) (calls : ℕ) (refusal : Option Reply) → IsRoomy both.shared both.own
+pub answered_within : (both : Both) (given : List ℕ) (wants missing : List Want) (calls : ℕ) (refusal : Option Reply) → IsRoomy both.shared both.own
     → option_or (refused_missing both.shared both.own.who given missing) (refused_full both missing calls) ≡ refusal → IsWithin (answered both given wants missing refusal).shared
 answered_within both given wants missing calls None roomy e =
     let enough = covered both missing calls (neither (refused_missing both.shared both.own.who given missing) (refused_full both missing calls) e).1 in
@@ -91,7 +91,7 @@ acquired_within wants calls shared own roomy pending =
 pub served_within : (shared : Shared) (own : Own) → IsRoomy shared own → length own.pending ≤ own.cap → IsWithin (served_by shared own None).shared
 served_within shared own roomy pending = (opened_roomy shared own roomy pending).within
 
-stabilised_in_within : (both : Both) (one : Option Stabilisation) → IsRoomy both.shared both.own → IsWithin (stabilised_in both one).shared
+pub stabilised_in_within : (both : Both) (one : Option Stabilisation) → IsRoomy both.shared both.own → IsWithin (stabilised_in both one).shared
 stabilised_in_within both None roomy = (roomy_same both.shared both.own (handed_in both).own roomy refl refl).within
 stabilised_in_within both (Some one) roomy = roomy.within
 

@@ -16,7 +16,7 @@ use Rattle.casper_model.proofs.Additions.{who_opened}
 use Rattle.casper_model.proofs.TurnRights.{up_as_it_stands, keeps_with_less, keeps_told, keeps_opened}
 
 -- the order of rights says nothing of the stabilisations
-keeps_with_stabilisations : (shared : Shared) (own : Own) (after : Shared) (own_after : Own) (stabilisations : List Stabilisation) → TurnKeeps shared own after own_after
+pub keeps_with_stabilisations : (shared : Shared) (own : Own) (after : Shared) (own_after : Own) (stabilisations : List Stabilisation) → TurnKeeps shared own after own_after
     → TurnKeeps shared own (record after { stabilisations = stabilisations }) own_after
 keeps_with_stabilisations shared own after own_after stabilisations keeps = record {
   who = keeps.who;

@@ -17,7 +17,7 @@ use Rattle.casper_model.specs.Client.{Client}
 use Rattle.casper_model.specs.Growth.{AddsOwn}
 use Rattle.casper_model.specs.Shared.{change_from}
 use Rattle.casper_model.proofs.Entries.{contains_cases}
-use Rattle.casper_laws.specs.MarkRoom.{mark_count, spare_of, spare_at}
+use Rattle.casper_turns.specs.MarkRoom.{mark_count, spare_of, spare_at}
 
 -- the marks of two lists of items
 pub marks_append : (items more : List Item) → mark_count (items ++ more) ≡ mark_count items + mark_count more

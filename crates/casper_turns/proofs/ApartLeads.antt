@@ -7,8 +7,8 @@ use Rattle.casper_trail.specs.Association.{association_of}
 use Rattle.casper_trail.proofs.LinkLists.{contains_there}
 use Rattle.casper_model.specs.Stabilisation.{Stabilisation}
 use Rattle.casper_model.proofs.Entries.{contains_cases}
-use Rattle.casper_laws.specs.FrozenLaws.{leads_of, AreApart}
-use Rattle.casper_laws.proofs.Lists.{contains_here, contains_mapped, contains_filter, any_of, any_none}
+use Rattle.casper_turns.specs.Frozen.{leads_of, AreApart}
+use Rattle.casper_turns.proofs.Lists.{contains_here, contains_mapped, contains_filter, any_none, any_of}
 
 -- leads whose associations stay are apart still
 pub apart_still : (trail after : List Item) (leads : List ℕ) → ((lead : ℕ) → Contains leads lead → association_of after lead ≡ association_of trail lead)

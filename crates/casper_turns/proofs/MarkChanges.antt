@@ -1,4 +1,4 @@
-use Rattle.std.proofs.Common.{◌≡◌, ◌≤◌, ◌<◌, ℕ, ◌+◌, true, false, cond, not, ◌==◌, map, length, Contains, refl, sym, ap, ◌∙◌, subst, arith, eq-eqb}
+use Rattle.std.proofs.Common.{◌≡◌, ◌≤◌, ◌<◌, ℕ, ◌+◌, true, cond, not, ◌==◌, map, length, Contains, refl, sym, ap, ◌∙◌, subst, arith, eq-eqb}
 use Rattle.std.specs.Prelude.{Option, None, Some}
 use Rattle.std.proofs.lemmas.Bool.{cond_both, cond-true}
 use Rattle.std.proofs.lemmas.List.{length-map}
@@ -6,33 +6,25 @@ use Rattle.std.proofs.lemmas.List.Sums.{sum_by-set}
 use Rattle.casper_words.specs.Crew.{IsClient, has_member}
 use Rattle.casper_trail.specs.declared.mark.Mark.TheVariants.{Commit, Rollback}
 use Rattle.casper_trail.specs.Association.{association_of}
-use Rattle.casper_trail.proofs.Rounds.{association_holds_its_client, association_of_a_member}
-use Rattle.casper_model.specs.declared.outcome.Outcome.{Outcome}
-use Rattle.casper_model.specs.declared.outcome.Outcome.TheVariants as outcome
+use Rattle.casper_trail.proofs.Rounds.{association_holds_its_client}
 use Rattle.casper_model.specs.declared.outcome.Kept.{Kept}
 use Rattle.casper_model.specs.declared.reply.Loss.{Loss}
 use Rattle.casper_model.specs.Client.{Client, Fallen}
 use Rattle.casper_model.specs.Own.{Own}
 use Rattle.casper_model.specs.Both.{Changed}
-use Rattle.casper_model.specs.Stabilisation.{Stabilisation, is_gathering, is_doubtful, without}
+use Rattle.casper_model.specs.Stabilisation.{Stabilisation, is_gathering, without}
 use Rattle.casper_model.specs.Shared.{Shared, client_at, fallen_at, place_client}
 use Rattle.casper_model.specs.Frozen.{stabilisation_of, members_of}
 use Rattle.casper_model.specs.Leave.{absent, vanish, vanished_by}
 use Rattle.casper_model.specs.Loss.{lose, lose_by, lost_in, rolled_back, fallen_behind}
-use Rattle.casper_model.specs.Finish.{finish, finished_by, finished_as, failed, ended, committed, settled, settled_by, stabilisation_led_by, doubtful_of}
+use Rattle.casper_model.specs.Finish.{ended, committed}
 use Rattle.casper_model.specs.Rights.{TurnStands}
 use Rattle.casper_model.proofs.OpeningRights.{IsUp}
 use Rattle.casper_model.proofs.TurnRights.{up_as_it_stands}
 use Rattle.casper_model.proofs.AcquireRights.{within_places}
 use Rattle.casper_model.proofs.LossRights.{spares_loss}
-use Rattle.casper_laws.specs.FrozenLaws.{AreFrozen}
-use Rattle.casper_laws.specs.MarkRoom.{spare_of, spare_at, spare_marks, MarksAreDue, NotedAreMembers}
-use Rattle.casper_laws.proofs.Lists.{find_found}
-use Rattle.casper_laws.proofs.MarkCounts.{marks_pushed, SparesNoMore, spares_changed, spares_fewer, some_no_longer, one_shorter}
-
--- no more marks are recorded than are no longer due
-abbrev pub RecordsNoMore : Shared → Shared → Type 0
-RecordsNoMore shared after = MarksAreDue false shared after
+use Rattle.casper_turns.specs.MarkRoom.{spare_of, spare_at, spare_marks, RecordsNoMore}
+use Rattle.casper_turns.proofs.MarkCounts.{marks_pushed, SparesNoMore, spares_changed, spares_fewer, some_no_longer, one_shorter}
 
 pub records_nothing : (shared : Shared) → RecordsNoMore shared shared
 records_nothing shared = omega arith
@@ -60,7 +52,7 @@ module _ (shared : Shared) (lost : ℕ) where
       omega (arith, spares, left, marks)
 
   -- that ends a stabilisation
-  ends_its_stabilisation : (one : Stabilisation) → Contains shared.stabilisations one → has_member one.lead (association_of shared.trail lost) ≡ true
+  pub ends_its_stabilisation : (one : Stabilisation) → Contains shared.stabilisations one → has_member one.lead (association_of shared.trail lost) ≡ true
       → RecordsNoMore shared (rolled_back shared lost)
   ends_its_stabilisation one inside member =
       let members = association_of shared.trail lost in
@@ -79,54 +71,22 @@ spares_ended shared one kept =
     (λ asker. omega arith) (λ other. omega arith))
     0 shared.clients
 
-ended_records : (shared : Shared) (one : Stabilisation) (kept : Kept) → RecordsNoMore shared (ended shared one kept)
+pub ended_records : (shared : Shared) (one : Stabilisation) (kept : Kept) → RecordsNoMore shared (ended shared one kept)
 ended_records shared one kept =
     let spares = spares_ended shared one kept in
     let left = some_no_longer (λ (other : Stabilisation). not (other.lead == one.lead)) shared.stabilisations in
     omega (arith, spares, left)
 
-committed_records : (shared : Shared) (one : Stabilisation) → Contains shared.stabilisations one → RecordsNoMore shared (committed shared one).shared
+pub committed_records : (shared : Shared) (one : Stabilisation) → Contains shared.stabilisations one → RecordsNoMore shared (committed shared one).shared
 committed_records shared one inside =
     let spares : spare_marks (committed shared one).shared ≤ spare_marks shared = spares_ended shared one _ in
     let left = one_shorter (λ (other : Stabilisation). not (other.lead == one.lead)) shared.stabilisations one inside (ap not (eq-eqb one.lead one.lead refl)) in
     let marks = marks_pushed shared.trail (Commit one.lead (members_of shared one)) in
     omega (arith, spares, left, marks)
 
--- where a loss was noted, its rollback ends the stabilisation, which had the room of its final mark
-failed_records : (shared : Shared) (one : Stabilisation) (cause : Outcome) (noted : Option ℕ) → one.noted ≡ noted → AreFrozen shared → NotedAreMembers shared
-    → Contains shared.stabilisations one → RecordsNoMore shared (failed shared one cause noted).shared
-failed_records shared one cause None e frozen members inside = ended_records shared one _
-failed_records shared one cause (Some lost) e frozen members inside =
-    ends_its_stabilisation shared lost one inside
-    (ap (has_member one.lead) (association_of_a_member shared.trail one.lead lost (members one lost inside e))
-    ∙ association_holds_its_client shared.trail one.lead (frozen.leads one inside))
-
 -- changes of the stabilisations alone
-relabelled_records : (shared : Shared) (change : Stabilisation → Stabilisation) → RecordsNoMore shared (record shared { stabilisations = map change shared.stabilisations })
+pub relabelled_records : (shared : Shared) (change : Stabilisation → Stabilisation) → RecordsNoMore shared (record shared { stabilisations = map change shared.stabilisations })
 relabelled_records shared change = let same = length-map shared.stabilisations change in omega (arith, same)
-
-finished_records : (shared : Shared) (one : Stabilisation) (how : Outcome) → AreFrozen shared → NotedAreMembers shared → Contains shared.stabilisations one
-    → RecordsNoMore shared (finished_as shared one how).shared
-finished_records shared one (outcome.Ok version) frozen members inside = committed_records shared one inside
-finished_records shared one (outcome.Full need free) frozen members inside = failed_records shared one (outcome.Full need free) one.noted refl frozen members inside
-finished_records shared one outcome.Worn frozen members inside = failed_records shared one outcome.Worn one.noted refl frozen members inside
-finished_records shared one outcome.Disk frozen members inside = failed_records shared one outcome.Disk one.noted refl frozen members inside
-finished_records shared one outcome.Doubt frozen members inside = relabelled_records shared _
-
-pub finish_records : (shared : Shared) (lead : ℕ) (how : Outcome) → AreFrozen shared → NotedAreMembers shared → RecordsNoMore shared (finish shared lead how).shared
-finish_records shared lead how frozen members = by_found (stabilisation_led_by shared lead) refl
-  where
-    by_found : (one : Option Stabilisation) → stabilisation_led_by shared lead ≡ one → RecordsNoMore shared (finished_by shared how one).shared
-    by_found None e = records_nothing shared
-    by_found (Some one) e =
-        finished_records shared one how frozen members (find_found (λ (x : Stabilisation). x.lead == lead) shared.stabilisations one e).0
-
-pub settled_records : (shared : Shared) → RecordsNoMore shared (settled shared).shared
-settled_records shared = by_found (doubtful_of shared) refl
-  where
-    by_found : (one : Option Stabilisation) → doubtful_of shared ≡ one → RecordsNoMore shared (settled_by shared one).shared
-    by_found None e = records_nothing shared
-    by_found (Some one) e = committed_records shared one (find_found (λ (x : Stabilisation). is_doubtful x.phase) shared.stabilisations one e).0
 
 -- a loss
 lost_records : (shared : Shared) (who unrecorded : ℕ) → IsClient who → IsUp shared who → (one : Option Stabilisation)

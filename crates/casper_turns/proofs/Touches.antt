@@ -20,11 +20,12 @@ use Rattle.casper_trail.proofs.Links.{client_at as writer_is_client}
 use Rattle.casper_trail.proofs.LinkLists.{contains_there}
 use Rattle.casper_model.specs.Acquire.{touches_by}
 use Rattle.casper_model.specs.Frozen.{is_modified_by}
-use Rattle.casper_model.specs.LegalHistory.{right_for, IsGoodNow}
+use Rattle.casper_model.specs.LegalHistory.{right_for}
+use Rattle.casper_turns.specs.Good.{MayRecord}
 use Rattle.casper_model.specs.Own.{Own}
 use Rattle.casper_model.proofs.HeldRights.{covers_read, allows_covered}
 use Rattle.casper_model.proofs.Entries.{contains_append}
-use Rattle.casper_laws.proofs.Lists.{contains_here, any_found, any_of, any_none}
+use Rattle.casper_turns.proofs.Lists.{contains_here, any_found, any_none, any_of}
 
 -- who is no member of an association has none of its members in its own
 pub not_member_back : (items : List Item) (lead who : ℕ) → IsClient who → has_member who (association_of items lead) ≡ false
@@ -92,9 +93,9 @@ touches_leave items who (want ∷ wants) lead clients is out clean =
         true≢false (sym (any_of (writes_page at) (touch_by one page ∷ []) entry inside writes))
 
 -- the pending calls of a good client leave all associations
-pub calls_leave : (base : List (List ℕ)) (items : List Item) (own : Own) → IsClient own.who → IsGoodNow base items own → (client : ℕ)
+pub calls_leave : (items : List Item) (own : Own) → IsClient own.who → MayRecord items own → (client : ℕ)
     → association_of (items ++ as_items (entries_by own.who own.pending)) client ≡ association_of items client
-calls_leave base items own is good client =
+calls_leave items own is good client =
     association_of_more_calls items own.who own.pending is
     (λ call inside. good.writers call.page (allows_covered own.held call.page (right_for call.op) may.Read (covers_read (right_for call.op)) (good.held call inside)))
     client

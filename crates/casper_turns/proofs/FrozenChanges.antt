@@ -1,4 +1,4 @@
-use Rattle.std.proofs.Common.{◌≡◌, ◌≢◌, ◌⊎◌, ℕ, List, [], Bool, true, map, filter, Contains, refl, sym, ap, ◌∙◌, subst, ⊎_elim, inl, inr, true≢false}
+use Rattle.std.proofs.Common.{◌≡◌, ◌≢◌, ◌⊎◌, ℕ, [], Bool, true, map, filter, Contains, refl, sym, ap, ◌∙◌, subst, ⊎_elim, inl, inr, true≢false}
 use Rattle.std.specs.Prelude.{Option, None, Some}
 use Rattle.std.proofs.lemmas.Bool.{cases_eq}
 use Rattle.std.proofs.lemmas.List.{map-id}
@@ -12,14 +12,13 @@ use Rattle.casper_model.specs.Client.{Client, Fallen}
 use Rattle.casper_model.specs.Own.{Own}
 use Rattle.casper_model.specs.Stabilisation.{Stabilisation, is_gathering, is_sealed, is_doubtful}
 use Rattle.casper_model.specs.Shared.{Shared, client_at, rights_at, of_client}
-use Rattle.casper_model.specs.State.{State, Unfinished}
 use Rattle.casper_model.specs.Rights.{Agrees, AgreesUnlessFallen, TurnStands, TurnKeeps}
 use Rattle.casper_model.proofs.HeldRights.{AllowsNoMore}
 use Rattle.casper_model.proofs.OpeningRights.{IsUp}
 use Rattle.casper_model.proofs.TurnRights.{rights_are_held}
-use Rattle.casper_laws.specs.FrozenLaws.{leads_of, AreApart, IsQuiet, AreFrozen, IsSealedBy, is_any_doubtful, AreWriteOutsInOrder}
-use Rattle.casper_laws.proofs.Lists.{contains_map, contains_mapped, contains_filter, contains_filtered, any_found, any_of, any_none, same_any}
-use Rattle.casper_laws.proofs.ApartLeads.{apart_still, apart_some, leads_mapped, leads_filtered, one_with_member}
+use Rattle.casper_turns.specs.Frozen.{leads_of, AreApart, IsQuiet, AreFrozen, IsSealedBy}
+use Rattle.casper_turns.proofs.Lists.{contains_map, contains_mapped, contains_filter, contains_filtered}
+use Rattle.casper_turns.proofs.ApartLeads.{apart_still, apart_some, leads_mapped, leads_filtered, one_with_member}
 
 -- no client may write more
 abbrev pub MayWriteNoMore : Shared → Shared → Type 0
@@ -71,13 +70,6 @@ stays_both shared middle after first second = record {
   };
 }
 
--- where one was in doubt one is
-are_doubtful : (shared after : Shared) → LeavesWriteOuts shared after → is_any_doubtful shared ≡ true → is_any_doubtful after ≡ true
-are_doubtful shared after left is =
-    let found = any_found (λ (x : Stabilisation). is_doubtful x.phase) shared.stabilisations is in
-    let still = left.doubtful found.0.lead (found.0, found.1, refl, found.2) in
-    any_of (λ (x : Stabilisation). is_doubtful x.phase) after.stabilisations still.0 still.1 still.3
-
 -- two stabilisations with one lead are one
 pub one_of_lead : (shared : Shared) (one other : Stabilisation) → AreFrozen shared → Contains shared.stabilisations one → Contains shared.stabilisations other
     → one.lead ≡ other.lead → one ≡ other
@@ -85,33 +77,6 @@ one_of_lead shared one other frozen inside also same =
     let mine = association_holds_its_client shared.trail one.lead (frozen.leads one inside) in
     one_with_member shared.trail shared.stabilisations one other one.lead frozen.apart inside also mine
     (ap (λ lead. has_member one.lead (association_of shared.trail lead)) (sym same) ∙ mine)
-
--- what stands of the write-outs stands behind such a change
-pub write_outs_left : (state : State) (after : Shared) (owns : List Own) (unfinished : Option Unfinished) → StaysFrozen state.shared after
-    → AreWriteOutsInOrder state unfinished → AreWriteOutsInOrder (record state { shared = after; owns = owns }) unfinished
-write_outs_left state after owns None stays order = record {
-  most = λ one other inside also doubtful doubtful_too.
-      let early = stays.left.were one inside doubtful in
-      let early_too = stays.left.were other also doubtful_too in
-      one_of_lead after one other stays.frozen inside also
-      (sym early.3 ∙ ap (λ (x : Stabilisation). x.lead) (order.most early.0 early_too.0 early.1 early_too.1 early.2 early_too.2) ∙ early_too.3);
-  doubt =
-      order.doubt
-      ∙ same_any (λ one. is_doubtful one.phase) state.shared.stabilisations (λ one. is_doubtful one.phase) after.stabilisations (are_doubtful state.shared after stays.left)
-      (λ found.
-      let one = any_found (λ (x : Stabilisation). is_doubtful x.phase) after.stabilisations found in
-      let early = stays.left.were one.0 one.1 one.2 in
-      any_of (λ (x : Stabilisation). is_doubtful x.phase) state.shared.stabilisations early.0 early.1 early.2);
-}
-write_outs_left state after owns (Some unfinished) stays order = record {
-  stabilisation = stays.left.sealed unfinished.lead order.stabilisation;
-  alone =
-      any_none (λ one. is_doubtful one.phase) after.stabilisations
-      (λ one inside doubtful.
-      let early = stays.left.were one inside doubtful in
-      true≢false (sym (any_of (λ (x : Stabilisation). is_doubtful x.phase) state.shared.stabilisations early.0 early.1 early.2) ∙ order.alone));
-  doubt = order.doubt;
-}
 
 -- a stabilisation is quiet where it was, and a change keeps who is awaited
 pub quiet_still : (shared after : Shared) (one next : Stabilisation) → next.lead ≡ one.lead

@@ -119,3 +119,6 @@ find_some {X} p xs x inside passes = by_found (find p xs) refl
     by_found : (one : Option X) → find p xs ≡ one → is_some one ≡ true
     by_found (Some y) e = refl
     by_found None e = absurd (find_none p xs e x inside passes)
+
+pub not_some : {X : Type 0} (one : X) → None ≡ Some one → ⊥
+not_some one is = true≢false (sym (ap is_some is))

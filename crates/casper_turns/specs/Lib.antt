@@ -1,0 +1,14 @@
+pub mod Apart
+pub mod Frozen
+pub mod Good
+pub mod GoodRuns
+pub mod GoodStates
+pub mod HitLaws
+pub mod Kept
+pub mod MarkRoom
+pub mod Noted
+pub mod Relying
+pub mod Right
+pub mod StageLaws
+pub mod Still
+pub mod TurnLaws
