@@ -1,0 +1,9 @@
+pub mod Acknowledgement
+pub mod AcquireCauses
+pub mod Aftermath
+pub mod AnswerRows
+pub mod Lives
+pub mod Losses
+pub mod Sessions
+pub mod StabiliseCauses
+pub mod WriteOutCauses
