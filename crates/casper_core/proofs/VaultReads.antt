@@ -7,11 +7,13 @@ use Rattle.casper_core.specs.Loading.{OnlyReads}
 -- What is read of a vault leaves what it tells, over any number of reads.
 
 module _ {V : Type 0} (tells : Bool) (size : V → ℕ) (image : V → List (List ℕ)) (version : V → ℕ) (room : V → Option VaultRoom) (doubt : V → Option (List Change))
-    (now : V → Saved → Type 0) (moment : V → ℕ) (since : V → ℕ → Saved → Type 0) (faults : V → ℕ)
+    (now : V → Saved → Type 0) (moment : V → ℕ) (since : V → ℕ → Saved → Type 0) (faults : V → ℕ) (leads_to : V → V → Type 0)
     (now_counts : (vault : V) (past : ℕ) (saved : Saved) → IsTrue tells → past ≤ moment vault → now vault saved → since vault past saved)
     (only_now : (vault : V) (saved : Saved) → IsTrue tells → since vault (moment vault) saved → now vault saved)
-    (earlier_counts : (vault : V) (earlier later : ℕ) (saved : Saved) → IsTrue tells → earlier ≤ later → since vault later saved → since vault earlier saved) where
-  pub reads_nothing : (vault : V) → OnlyReads tells size image version room doubt now moment since faults vault vault
+    (earlier_counts : (vault : V) (earlier later : ℕ) (saved : Saved) → IsTrue tells → earlier ≤ later → since vault later saved → since vault earlier saved)
+    (leads_to_itself : (vault : V) → leads_to vault vault)
+    (leads_on : (first second third : V) → leads_to first second → leads_to second third → leads_to first third) where
+  pub reads_nothing : (vault : V) → OnlyReads tells size image version room doubt now moment since faults leads_to vault vault
   reads_nothing vault = record {
     same_size = refl;
     same_version = refl;
@@ -25,11 +27,12 @@ module _ {V : Type 0} (tells : Bool) (size : V → ℕ) (image : V → List (Lis
       agrees = λ saved is. only_now vault saved told is;
     };
     never_falls = omega arith;
+    leads = leads_to_itself vault;
   }
 
-  pub reads_again : (first second third : V) → OnlyReads tells size image version room doubt now moment since faults first second
-      → OnlyReads tells size image version room doubt now moment since faults second third
-      → OnlyReads tells size image version room doubt now moment since faults first third
+  pub reads_again : (first second third : V) → OnlyReads tells size image version room doubt now moment since faults leads_to first second
+      → OnlyReads tells size image version room doubt now moment since faults leads_to second third
+      → OnlyReads tells size image version room doubt now moment since faults leads_to first third
   reads_again first second third one two = record {
     same_size = two.same_size ∙ one.same_size;
     same_version = two.same_version ∙ one.same_version;
@@ -52,4 +55,5 @@ module _ {V : Type 0} (tells : Bool) (size : V → ℕ) (image : V → List (Lis
               (later.only (moment first) saved earlier.later is);
         };
     never_falls = omega (arith, one.never_falls, two.never_falls);
+    leads = leads_on first second third one.leads two.leads;
   }

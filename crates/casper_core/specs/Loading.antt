@@ -1,7 +1,8 @@
 use Rattle.std.specs.Prelude.{◌≡◌, ℕ, ◌<◌, ◌≤◌, Bool, List, Option, None, Some, IsSome, IsTrue, false}
 use Rattle.casper_words.specs.declared.page.Want.{Want}
 use Rattle.casper_space.specs.Changes.{Change, VaultRoom}
-use Rattle.casper_disk.specs.Vault.{Saved, Adds, page_at}
+use Rattle.casper_disk.specs.Disk.{Took}
+use Rattle.casper_disk.specs.Vault.{Saved, page_at}
 use Rattle.casper_cache.specs.Own as cache
 use Rattle.casper_model.specs.declared.reply.Reply.{Reply}
 use Rattle.casper_model.specs.declared.reply.Reply.TheVariants.{Granted}
@@ -16,16 +17,18 @@ use Rattle.casper_hub.specs.Turns.{IsTurn}
 use Rattle.casper_hub.specs.Words.{IsStored}
 use Rattle.casper_core.specs.CoreView.{told_by}
 
--- a vault was read and no more: it tells what it told, and a stop since then leaves what a stop then might have left
+-- a vault was read and no more: it tells what it told, a stop since then leaves what a stop then might have left, and what each call
+-- of it keeps stayed
 pub record OnlyReads {V : Type 0} (tells : Bool) (size : V → ℕ) (image : V → List (List ℕ)) (version : V → ℕ) (room : V → Option VaultRoom) (doubt : V → Option (List Change))
-    (now : V → Saved → Type 0) (moment : V → ℕ) (since : V → ℕ → Saved → Type 0) (faults : V → ℕ) (before after : V) : Type 0 where
+    (now : V → Saved → Type 0) (moment : V → ℕ) (since : V → ℕ → Saved → Type 0) (faults : V → ℕ) (leads_to : V → V → Type 0) (before after : V) : Type 0 where
   pub same_size : size after ≡ size before
   pub same_version : version after ≡ version before
   pub same_room : room after ≡ room before
   pub sure : doubt before ≡ None → doubt after ≡ None
   pub told : IsTrue tells → told_by image version room doubt after ≡ told_by image version room doubt before
-  pub images : IsTrue tells → Adds (moment before) (moment after) (since before) (since after) (now before)
+  pub images : IsTrue tells → Took (moment before) (moment after) (since before) (since after) (now before)
   pub never_falls : faults before ≤ faults after
+  pub leads : leads_to before after
 
 -- the server got frames of pages and no more
 pub record OnlyLoads (hub after : HubView) : Type 0 where

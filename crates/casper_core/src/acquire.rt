@@ -47,7 +47,7 @@ pub(crate) fn acquire<V: Vault>(
     ensures cache_stays { OnErr result (cache.new ≡ cache.old) }
     ensures leaves { Leaves who V.tells (V.image vault.old) hub.old cache.old hub.new }
     ensures holds { Holds who V.tells (V.image vault.old) hub.old cache.old hub.new cache.new }
-    ensures vault { OnlyReads V.tells V.size V.image V.version V.room V.doubt V.images_now V.moment V.images_since V.faults vault.old vault.new }
+    ensures vault { OnlyReads V.tells V.size V.image V.version V.room V.doubt V.images_now V.moment V.images_since V.faults V.leads_to vault.old vault.new }
 {
     let _mark: Option<Mark> = None;
     for _turn in 0..MOST_TURNS {

@@ -48,7 +48,7 @@ fn read_within<V: Vault>(
     ensures cache_stays { OnErr result (cache.new ≡ cache.old) }
     ensures leaves { Leaves who V.tells (V.image vault.old) hub.old cache.old hub.new }
     ensures holds { Holds who V.tells (V.image vault.old) hub.old cache.old hub.new cache.new }
-    ensures vault { OnlyReads V.tells V.size V.image V.version V.room V.doubt V.images_now V.moment V.images_since V.faults vault.old vault.new }
+    ensures vault { OnlyReads V.tells V.size V.image V.version V.room V.doubt V.images_now V.moment V.images_since V.faults V.leads_to vault.old vault.new }
 {
     let _mark: Option<Mark> = None;
     if page.0 >= vault.pages() || word >= WORDS {
@@ -79,7 +79,7 @@ fn write_within<V: Vault>(
     ensures cache_stays { OnErr result (cache.new ≡ cache.old) }
     ensures leaves { Leaves who V.tells (V.image vault.old) hub.old cache.old hub.new }
     ensures holds { Holds who V.tells (V.image vault.old) hub.old cache.old hub.new cache.new }
-    ensures vault { OnlyReads V.tells V.size V.image V.version V.room V.doubt V.images_now V.moment V.images_since V.faults vault.old vault.new }
+    ensures vault { OnlyReads V.tells V.size V.image V.version V.room V.doubt V.images_now V.moment V.images_since V.faults V.leads_to vault.old vault.new }
 {
     let _mark: Option<Mark> = None;
     if page.0 >= vault.pages() || word >= WORDS {
@@ -108,7 +108,7 @@ fn acquire_within<V: Vault>(
     ensures cache_stays { OnErr result (cache.new ≡ cache.old) }
     ensures leaves { Leaves who V.tells (V.image vault.old) hub.old cache.old hub.new }
     ensures holds { Holds who V.tells (V.image vault.old) hub.old cache.old hub.new cache.new }
-    ensures vault { OnlyReads V.tells V.size V.image V.version V.room V.doubt V.images_now V.moment V.images_since V.faults vault.old vault.new }
+    ensures vault { OnlyReads V.tells V.size V.image V.version V.room V.doubt V.images_now V.moment V.images_since V.faults V.leads_to vault.old vault.new }
 {
     let _mark: Option<Mark> = None;
     let pages = vault.pages();
@@ -145,7 +145,7 @@ pub(crate) fn act<V: Vault>(
     ensures cache_stays { OnErr result (cache.new ≡ cache.old) }
     ensures leaves { Leaves who V.tells (V.image vault.old) hub.old cache.old hub.new }
     ensures holds { Holds who V.tells (V.image vault.old) hub.old cache.old hub.new cache.new }
-    ensures vault { OnlyReads V.tells V.size V.image V.version V.room V.doubt V.images_now V.moment V.images_since V.faults vault.old vault.new }
+    ensures vault { OnlyReads V.tells V.size V.image V.version V.room V.doubt V.images_now V.moment V.images_since V.faults V.leads_to vault.old vault.new }
 {
     let _mark: Option<Mark> = None;
     match event {

@@ -28,7 +28,7 @@ pub(crate) fn load<V: Vault>(
     ensures hub { OnlyLoads hub.old hub.new }
     ensures frames { IsTrue V.tells → (base : List (List ℕ)) → AreStored base hub.old (V.image vault.old) → FramesAreRight base hub.old → FramesAreRight base hub.new }
     ensures sound { IsSound hub.old → IsSound hub.new }
-    ensures vault { OnlyReads V.tells V.size V.image V.version V.room V.doubt V.images_now V.moment V.images_since V.faults vault.old vault.new }
+    ensures vault { OnlyReads V.tells V.size V.image V.version V.room V.doubt V.images_now V.moment V.images_since V.faults V.leads_to vault.old vault.new }
 {
     let mut frame = Frame::zero(alloc)?;
     if vault.read_page(page, &mut frame).is_err() {

@@ -27,7 +27,7 @@ impl<V: Vault> Core<V> {
         ensures never_falls { V.faults self.old.vault ≤ V.faults self.new.vault }
         ensures legal { (state : State) → Stands state self.new → HasLegalTrail state self.new }
         ensures unheld { (state : State) → Stands state self.new → UnheldPagesAreRight state self.new }
-        ensures vault { OnlyReads V.tells V.size V.image V.version V.room V.doubt V.images_now V.moment V.images_since V.faults self.old.vault self.new.vault }
+        ensures vault { OnlyReads V.tells V.size V.image V.version V.room V.doubt V.images_now V.moment V.images_since V.faults V.leads_to self.old.vault self.new.vault }
         ensures sound { IsSound self.new }
     {
         let _mark: Option<Mark> = None;

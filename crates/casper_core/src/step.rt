@@ -10,7 +10,7 @@ ghost use Rattle.casper_core.specs.Sound.{IsSound};
 ghost use Rattle.casper_core.specs.Stands.{Stands};
 ghost use Rattle.casper_core.specs.Stepping.{IsBuilt, Steps, IsUnchanged, completes, counted, HasLegalTrail};
 ghost use Rattle.casper_core.specs.UnheldPages.{UnheldPagesAreRight};
-ghost use Rattle.casper_disk.specs.Vault.{Adds};
+ghost use Rattle.casper_disk.specs.Disk.{Took};
 
 use crate::Core;
 use casper_disk::Vault;
@@ -53,7 +53,7 @@ impl<V: Vault> Core<V> {
         ensures memory { OnErr result (IsUnchanged self.old self.new) }
         ensures stands { IsTrue V.tells → OnErr result ((state : State) → Stands state self.old → Stands state self.new) }
         ensures calls { self.new.calls ≡ self.old.calls }
-        ensures vault { OnlyReads V.tells V.size V.image V.version V.room V.doubt V.images_now V.moment V.images_since V.faults self.old.vault self.new.vault }
+        ensures vault { OnlyReads V.tells V.size V.image V.version V.room V.doubt V.images_now V.moment V.images_since V.faults V.leads_to self.old.vault self.new.vault }
         ensures sound { IsSound self.new }
     {
         let _mark: Option<Mark> = None;
@@ -83,8 +83,8 @@ impl<V: Vault> Core<V> {
         ensures legal { (state : State) → Stands state self.new → HasLegalTrail state self.new }
         ensures unheld { (state : State) → Stands state self.new → UnheldPagesAreRight state self.new }
         ensures images { IsTrue V.tells →
-            Adds (V.moment self.old.vault) (V.moment self.new.vault) (V.images_since self.old.vault) (V.images_since self.new.vault) (V.images_now self.old.vault) }
-        ensures vault { OnlyReads V.tells V.size V.image V.version V.room V.doubt V.images_now V.moment V.images_since V.faults self.old.vault self.new.vault }
+            Took (V.moment self.old.vault) (V.moment self.new.vault) (V.images_since self.old.vault) (V.images_since self.new.vault) (V.images_now self.old.vault) }
+        ensures vault { OnlyReads V.tells V.size V.image V.version V.room V.doubt V.images_now V.moment V.images_since V.faults V.leads_to self.old.vault self.new.vault }
         ensures sound { IsSound self.new }
     {
         let _mark: Option<Mark> = None;

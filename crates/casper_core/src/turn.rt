@@ -27,7 +27,7 @@ impl<V: Vault> Core<V> {
         ensures memory { OnErr result (IsUnchanged self.old self.new) }
         ensures stands { IsTrue V.tells → OnErr result ((state : State) → Stands state self.old → Stands state self.new) }
         ensures calls { self.new.calls ≡ self.old.calls }
-        ensures vault { OnlyReads V.tells V.size V.image V.version V.room V.doubt V.images_now V.moment V.images_since V.faults self.old.vault self.new.vault }
+        ensures vault { OnlyReads V.tells V.size V.image V.version V.room V.doubt V.images_now V.moment V.images_since V.faults V.leads_to self.old.vault self.new.vault }
         ensures sound { IsSound self.new }
     {
         let _mark: Option<Mark> = None;

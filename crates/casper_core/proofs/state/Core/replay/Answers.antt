@@ -9,12 +9,12 @@ use Rattle.casper_core.proofs.state.Core.replay.Given as given
 use Rattle.casper_core.proofs.state.Core.replay.Goals as goal
 
 again : (g : given.Over) (first second third : g.row.V.Denot)
-    → OnlyReads g.V.Vault.tells g.V.Vault.size g.V.Vault.image g.V.Vault.version g.V.Vault.room g.V.Vault.doubt g.V.Vault.images_now g.V.Vault.moment g.V.Vault.images_since g.V.Vault.faults first second
-    → OnlyReads g.V.Vault.tells g.V.Vault.size g.V.Vault.image g.V.Vault.version g.V.Vault.room g.V.Vault.doubt g.V.Vault.images_now g.V.Vault.moment g.V.Vault.images_since g.V.Vault.faults second third
-    → OnlyReads g.V.Vault.tells g.V.Vault.size g.V.Vault.image g.V.Vault.version g.V.Vault.room g.V.Vault.doubt g.V.Vault.images_now g.V.Vault.moment g.V.Vault.images_since g.V.Vault.faults first third
+    → OnlyReads g.V.Vault.tells g.V.Vault.size g.V.Vault.image g.V.Vault.version g.V.Vault.room g.V.Vault.doubt g.V.Vault.images_now g.V.Vault.moment g.V.Vault.images_since g.V.Vault.faults g.V.Vault.leads_to first second
+    → OnlyReads g.V.Vault.tells g.V.Vault.size g.V.Vault.image g.V.Vault.version g.V.Vault.room g.V.Vault.doubt g.V.Vault.images_now g.V.Vault.moment g.V.Vault.images_since g.V.Vault.faults g.V.Vault.leads_to second third
+    → OnlyReads g.V.Vault.tells g.V.Vault.size g.V.Vault.image g.V.Vault.version g.V.Vault.room g.V.Vault.doubt g.V.Vault.images_now g.V.Vault.moment g.V.Vault.images_since g.V.Vault.faults g.V.Vault.leads_to first third
 again g first second third =
-    reads_again g.V.Vault.tells g.V.Vault.size g.V.Vault.image g.V.Vault.version g.V.Vault.room g.V.Vault.doubt g.V.Vault.images_now g.V.Vault.moment g.V.Vault.images_since g.V.Vault.faults
-    g.met.V.Vault.now_counts g.met.V.Vault.only_now g.met.V.Vault.earlier_counts first second third
+    reads_again g.V.Vault.tells g.V.Vault.size g.V.Vault.image g.V.Vault.version g.V.Vault.room g.V.Vault.doubt g.V.Vault.images_now g.V.Vault.moment g.V.Vault.images_since g.V.Vault.faults g.V.Vault.leads_to
+    g.met.V.Vault.now_counts g.met.V.Vault.only_now g.met.V.Vault.earlier_counts g.met.V.Vault.leads_to_itself g.met.V.Vault.leads_on first second third
 
 pub loop-event-init : goal.loop-event-init
 loop-event-init g c = record {
@@ -27,8 +27,8 @@ loop-event-init g c = record {
     omega arith,
     omega (arith, c.calls-calls.ensures.calls, c.calls-calls.type_inv),
   );
-  vault = reads_nothing g.V.Vault.tells g.V.Vault.size g.V.Vault.image g.V.Vault.version g.V.Vault.room g.V.Vault.doubt g.V.Vault.images_now g.V.Vault.moment g.V.Vault.images_since g.V.Vault.faults
-      g.met.V.Vault.now_counts g.met.V.Vault.only_now g.met.V.Vault.earlier_counts c.args.self.now.vault;
+  vault = reads_nothing g.V.Vault.tells g.V.Vault.size g.V.Vault.image g.V.Vault.version g.V.Vault.room g.V.Vault.doubt g.V.Vault.images_now g.V.Vault.moment g.V.Vault.images_since g.V.Vault.faults g.V.Vault.leads_to
+      g.met.V.Vault.now_counts g.met.V.Vault.only_now g.met.V.Vault.earlier_counts g.met.V.Vault.leads_to_itself g.met.V.Vault.leads_on c.args.self.now.vault;
   sound = c.calls-calls.ensures.sound;
 }
 

@@ -14,6 +14,6 @@ invariant-loop-event g l = record {
       × RunsInShape l.events said l.initial.self l.self
       × RoseBy (failures_in said) (g.V.Vault.faults l.initial.self.vault) (g.V.Vault.faults l.self.vault)
       × (l.self.calls ≡ min (l.initial.self.calls + completed_in l.events said) (2 ^ 64 - 1));
-  vault : OnlyReads g.V.Vault.tells g.V.Vault.size g.V.Vault.image g.V.Vault.version g.V.Vault.room g.V.Vault.doubt g.V.Vault.images_now g.V.Vault.moment g.V.Vault.images_since g.V.Vault.faults l.initial.self.vault l.self.vault;
+  vault : OnlyReads g.V.Vault.tells g.V.Vault.size g.V.Vault.image g.V.Vault.version g.V.Vault.room g.V.Vault.doubt g.V.Vault.images_now g.V.Vault.moment g.V.Vault.images_since g.V.Vault.faults g.V.Vault.leads_to l.initial.self.vault l.self.vault;
   sound : IsSound l.self;
 }
