@@ -1,0 +1,15 @@
+pub mod Contents
+pub mod Counts
+pub mod Effects
+pub mod Extending
+pub mod Following
+pub mod Making
+pub mod NewObjects
+pub mod NewPlaces
+pub mod Reaching
+pub mod Reheading
+pub mod Standing
+pub mod Storing
+pub mod Tests
+pub mod WalkLemmas
+pub mod Walking

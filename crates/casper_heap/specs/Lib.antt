@@ -1,0 +1,4 @@
+pub mod Answers
+pub mod HeapCalls
+pub mod Objects
+pub mod Walk
