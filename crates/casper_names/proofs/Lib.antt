@@ -1,0 +1,4 @@
+pub mod Binds
+pub mod Keeping
+pub mod Naming
+pub mod Writing
