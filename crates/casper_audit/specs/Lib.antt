@@ -1,0 +1,12 @@
+pub mod Auditor
+pub mod Groups
+pub mod Keeps
+pub mod Lines
+pub mod Opened
+pub mod Reading
+pub mod Settled
+pub mod Statements
+pub mod Text
+pub mod Verdicts
+pub mod Words
+pub mod Written
