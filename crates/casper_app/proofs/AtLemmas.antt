@@ -119,7 +119,7 @@ input_of_event number line asked old new before after result parses takes = by_r
 
     by_result : (r : Result (Unit {0}) Cause) → TakesEvent asked old new before after r → TakesInput number line old new before after r
     by_result (Ok done) h = (taken, h.0 ∙ after_it, h.1 ∙ ap (append_known before) text)
-    by_result (Err cause.Write) h = (taken, h.0 ∙ after_it, subst (TakesFront before after) text h.1)
+    by_result (Err cause.Write) h = (record { taken = taken; asked = asked; asks = asks; is = h.0 }, h.1)
     by_result (Err cause.Memory) h = (
       elim h.0 [ inl same ↦ inl same | inr carried ↦ inr (record { taken = taken; asked = asked; asks = asks; is = carried }) ],
       h.1,

@@ -28,13 +28,13 @@ chosen true x y gives = (refl, gives)
 chosen false x y gives = absurd (let h : None ≡ Some y = gives in cc)
 
 -- a client's text names the client, and no other text does
-client_read_back : (who : ℕ) → IsClient who → client_of (decimal who) ≡ Some who
+pub client_read_back : (who : ℕ) → IsClient who → client_of (decimal who) ≡ Some who
 client_read_back who client =
     ap (option_and_then (λ (number : ℕ). cond (nat_le 1 number && nat_le number 32) (Some number) None)) (number_read_back (2 ^ 32) who (omega arith) (omega (arith, client.1)))
     ∙ ap (λ (b : Bool). cond (b && nat_le who 32) (Some who) None) (le-leb 1 who client.0)
     ∙ ap (λ (b : Bool). cond b (Some who) None) (le-leb who 32 client.1)
 
-client_text : (word : List ℕ) (who : ℕ) → client_of word ≡ Some who → IsClient who × (word ≡ decimal who)
+pub client_text : (word : List ℕ) (who : ℕ) → client_of word ≡ Some who → IsClient who × (word ≡ decimal who)
 client_text word who names =
     let found = given (λ (number : ℕ). cond (nat_le 1 number && nat_le number 32) (Some number) None) (place_of word) who names in
     let test = chosen (nat_le 1 found.0 && nat_le found.0 32) (Some found.0) who found.2 in

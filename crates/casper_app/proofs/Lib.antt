@@ -1,5 +1,7 @@
 pub mod AtLemmas
+pub mod CallLemmas
 pub mod GrammarLemmas
+pub mod LineLawLemmas
 pub mod ReadingLemmas
 pub mod RunLemmas
 pub mod SessionLemmas

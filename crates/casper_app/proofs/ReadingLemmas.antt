@@ -1,4 +1,4 @@
-use Rattle.std.proofs.Common.{◌≡◌, ◌+◌, ◌≤◌, ◌<◌, arith, ℕ, List, [], ◌∷◌, ◌++◌, Option, Some, None, MatchOption, Result, Ok, Err, ap, sym, subst, ◌∙◌, refl, length, length-append, fold, filter_map, append_assoc, inl, inr, take, drop}
+use Rattle.std.proofs.Common.{◌≡◌, ◌≢◌, ◌+◌, ◌≤◌, ◌<◌, arith, ℕ, List, [], ◌∷◌, ◌++◌, Option, Some, None, MatchOption, Result, Ok, Err, ap, sym, subst, ◌∙◌, refl, length, length-append, length-drop, fold, filter_map, append_assoc, inl, inr, take, drop}
 use Rattle.std.proofs.lemmas.List.{append-nil, take-append-drop}
 use Rattle.std.proofs.lemmas.Grind.{flat_map-append}
 use Rattle.std.specs.Option.{option_map_or, unwrap_or}
@@ -15,8 +15,8 @@ use Rattle.casper_app.specs.declared.cause.Cause.TheVariants as cause
 use Rattle.casper_model.specs.declared.event.Event.{Event}
 use Rattle.casper_app.specs.Session.{Session, at_start, after_event, session_after}
 use Rattle.casper_app.specs.Lines.{event_in, events_in, IsTaken, AreTaken}
-use Rattle.casper_app.specs.Replay.{ReadsLines, EndsFor, most_lines}
-use Rattle.casper_app.specs.Reading.{Stands, IsReading, WritesTextFor}
+use Rattle.casper_app.specs.Replay.{ReadsLines, EndsFor, WritesButTheLast, WritesAnswers, most_lines}
+use Rattle.casper_app.specs.Reading.{Stands, IsReading}
 use Rattle.casper_app.specs.Taking.{after_line, answer_in, answers_in, IsCarriedOut, TakesInput, NextEnds}
 use Rattle.casper_app.specs.Texts.{answer_line, answer_lines}
 
@@ -77,17 +77,30 @@ stands_more pages count first left last taken_first taken taken_last session ses
     first_known : Option (List ℕ)
     first_known = taken_first
 
--- a front of the text of more answers, behind the text of those before
-front_more : (first between last : Option (List ℕ)) (before more : List Answer) → between ≡ append_known first (answer_lines before) → TakesFront between last (answer_lines more)
-    → (out : List ℕ) × (rest : List ℕ) × (last ≡ append_known first out) × (answer_lines (before ++ more) ≡ out ++ rest)
-front_more first between last before more start front = (
-  answer_lines before ++ take front.count (answer_lines more),
-  drop front.count (answer_lines more),
-  front.taken ∙ ap (λ (known : Option (List ℕ)). append_known known (take front.count (answer_lines more))) start
-      ∙ append_known-append first (answer_lines before) (take front.count (answer_lines more)),
-  flat_map-append answer_line before more
-      ∙ ap (λ (text : List ℕ). answer_lines before ++ text) (sym (take-append-drop front.count (answer_lines more)))
-      ∙ sym (append_assoc (answer_lines before) (take front.count (answer_lines more)) (drop front.count (answer_lines more))),
+-- what a text lacks behind a shorter front is something
+pub rest_of_front : (text : List ℕ) (count : ℕ) → count < length text → drop count text ≢ []
+rest_of_front text count short none = absurd (omega (arith, length-drop count text, ap length none, short))
+
+-- the answer to an event was cut, behind the whole text of the answers before it
+cut_at : (first between last : Option (List ℕ)) (before : List Answer) (given : Answer) (told : List Answer) → told ≡ before ++ given ∷ []
+    → between ≡ append_known first (answer_lines before) → TakesFront between last (answer_line given)
+    → (out : List ℕ) × (last ≡ append_known first out) × WritesButTheLast told out
+cut_at first between last before given told is start front = (
+  answer_lines before ++ take front.count (answer_line given),
+  front.taken ∙ ap (λ (known : Option (List ℕ)). append_known known (take front.count (answer_line given))) start
+      ∙ append_known-append first (answer_lines before) (take front.count (answer_line given)),
+  record {
+    before = before;
+    last = given;
+    is = is;
+    part = take front.count (answer_line given);
+    cut = (
+      drop front.count (answer_line given),
+      rest_of_front (answer_line given) front.count front.short,
+      sym (take-append-drop front.count (answer_line given)),
+    );
+    written = refl;
+  },
 )
 
 -- no line stood next
@@ -110,7 +123,7 @@ reading_ended pages count first left last taken_first taken session said stands 
   written = all_written said next;
 }
   where
-    ends_for : (c : Cause) → NextEnds c (count + 1) left last → EndsFor c (length stands.lines) left last
+    ends_for : (c : Cause) → NextEnds c (count + 1) left last → EndsFor c stands.lines left last
     ends_for cause.Done h = h
     ends_for cause.Usage h = h
     ends_for cause.Read h = h
@@ -119,7 +132,7 @@ reading_ended pages count first left last taken_first taken session said stands 
     ends_for (cause.BadLine n) h = (h.0 ∙ ap (λ (k : ℕ). k + 1) (sym stands.counted), (h.1, inl h.2))
     ends_for (cause.Unbuilt n) h = absurd h
 
-    all_written : (c : Cause) → NextEnds c (count + 1) left last → WritesTextFor c (answer_lines session.answers) (answer_lines session.answers)
+    all_written : (c : Cause) → NextEnds c (count + 1) left last → WritesAnswers c session.answers (answer_lines session.answers)
     all_written cause.Done h = refl
     all_written cause.Usage h = refl
     all_written cause.Read h = refl
@@ -177,20 +190,21 @@ reading_refused pages count first left last taken_first taken taken_last session
 reading_refused pages count first left last taken_first taken taken_last session session' line cause.Usage stands few takes h = absurd h
 reading_refused pages count first left last taken_first taken taken_last session session' line cause.Read stands few takes h = absurd h
 reading_refused pages count first left last taken_first taken taken_last session session' line cause.Write stands few takes h =
-    let front = front_more taken_first taken taken_last session.answers (answers_in session line) stands.written h.2 in record {
+    let answered : session'.answers ≡ session.answers ++ answer_in session h.0.asked ∷ [] = ap (λ (s : Session). s.answers) h.0.is in
+    let cut = cut_at taken_first taken taken_last session.answers (answer_in session h.0.asked) session'.answers answered stands.written h.1 in record {
       lines = stands.lines ++ line ∷ [];
       rest = last;
       reads = reads_more first stands.lines left line last stands.reads takes;
-      each = taken_more stands.lines line stands.each h.0;
+      each = taken_more stands.lines line stands.each h.0.taken;
       few = omega (arith, length-append stands.lines (line ∷ []), stands.counted);
       counted = λ done. cc;
-      ends = refl;
-      is = h.1 ∙ ap (λ (s : Session). after_line s line) stands.is ∙ sym (session_more pages stands.lines line);
-      out = front.0;
-      taken_is = front.2;
+      ends = (refl, record { front = stands.lines; line = line; is_last = refl; asked = h.0.asked; asks = h.0.asks });
+      is = after_carried session session' line h.0 ∙ ap (λ (s : Session). after_line s line) stands.is ∙ sym (session_more pages stands.lines line);
+      out = cut.0;
+      taken_is = cut.1;
       told = session'.answers;
       told_is = inl refl;
-      written = (front.1, ap (λ (s : Session). answer_lines s.answers) h.1 ∙ ap answer_lines (answers_more session line) ∙ front.3);
+      written = cut.2;
     }
 reading_refused pages count first left last taken_first taken taken_last session session' line cause.Memory stands few takes h = elim h.0 [
   | inl same ↦ record {

@@ -16,30 +16,38 @@ use Rattle.casper_app.specs.declared.cause.Cause.TheVariants as cause
 use Rattle.casper_app.specs.declared.summary.Summary.{Summary}
 use Rattle.casper_app.proofs.SessionLemmas.{sessions_are_legal}
 use Rattle.casper_app.specs.Session.{Session, at_start, trail_of, summary_of}
-use Rattle.casper_app.specs.Replay.{EndsFor, TakesAny, IsTold, IsReplay, WritesFor, ending_line, unread_summary}
-use Rattle.casper_app.specs.Reading.{IsReading, WritesTextFor}
+use Rattle.casper_app.specs.Replay.{EndsFor, TakesAny, IsTold, IsReplay, WritesFor, WritesAnswers, ending_line, unread_summary}
+use Rattle.casper_app.specs.Reading.{IsReading}
 use Rattle.casper_app.specs.Ending.{EndsWith, RunsReplay, RunsRefusal, IsLegalReplay}
 use Rattle.casper_app.specs.Texts.{answer_lines}
 
 -- whatever ended the reading took what stood next, or nothing
-ends_any : (said : Cause) (count : ℕ) (before after : Option (List ℕ)) → EndsFor said count before after → TakesAny before after
-ends_any cause.Done count before after h = inr (Ok next.End, [], h)
-ends_any cause.Usage count before after h = absurd h
-ends_any cause.Read count before after h = inr (Err fault.Failed, h.0, h.1)
-ends_any cause.Write count before after h = inl h
-ends_any cause.Memory count before after h = h
-ends_any (cause.BadLine n) count before after h = elim h.1.1 [ inl long ↦ inr (Ok next.TooLong, h.1.0, long) | inr line ↦ inr (Ok next.Line, h.1.0, line.0) ]
-ends_any (cause.Unbuilt n) count before after h = inr (Ok next.Line, h.1.1, h.1.2)
+ends_any : (said : Cause) (lines : List (List ℕ)) (before after : Option (List ℕ)) → EndsFor said lines before after → TakesAny before after
+ends_any cause.Done lines before after h = inr (Ok next.End, [], h)
+ends_any cause.Usage lines before after h = absurd h
+ends_any cause.Read lines before after h = inr (Err fault.Failed, h.0, h.1)
+ends_any cause.Write lines before after h = inl h.0
+ends_any cause.Memory lines before after h = h
+ends_any (cause.BadLine n) lines before after h = elim h.1.1 [ inl long ↦ inr (Ok next.TooLong, h.1.0, long) | inr line ↦ inr (Ok next.Line, h.1.0, line.0) ]
+ends_any (cause.Unbuilt n) lines before after h = inr (Ok next.Line, h.1.1, h.1.2)
 
--- a text was written, or the sink failed behind a front of it
-front_of : (said : Cause) (text out : List ℕ) → WritesTextFor said text out → ((said ≡ cause.Write) × (rest : List ℕ) × (text ≡ out ++ rest)) ⊎ (out ≡ text)
-front_of cause.Done text out h = inr h
-front_of cause.Usage text out h = inr h
-front_of cause.Read text out h = inr h
-front_of cause.Write text out h = inl (refl, h.0, h.1)
-front_of cause.Memory text out h = inr h
-front_of (cause.BadLine n) text out h = inr h
-front_of (cause.Unbuilt n) text out h = inr h
+-- where the sink did not fail at an answer, all of them were written whole
+answers_whole : (said : Cause) (told : List Answer) (out : List ℕ) → said ≢ cause.Write → WritesAnswers said told out → out ≡ answer_lines told
+answers_whole cause.Done told out not_write h = h
+answers_whole cause.Usage told out not_write h = h
+answers_whole cause.Read told out not_write h = h
+answers_whole cause.Write told out not_write h = absurd (not_write refl)
+answers_whole cause.Memory told out not_write h = h
+answers_whole (cause.BadLine n) told out not_write h = h
+answers_whole (cause.Unbuilt n) told out not_write h = h
+
+-- the answers as they were written, for what was said after all
+answers_by : (meant said : Cause) (told : List Answer) (out : List ℕ) → (said ≡ meant) ⊎ ((said ≡ cause.Memory) × (meant ≢ cause.Write))
+    → WritesAnswers meant told out → WritesAnswers said told out
+answers_by meant said told out why h = elim why [
+  | inl same ↦ subst (λ (c : Cause). WritesAnswers c told out) (sym same) h
+  | inr memory ↦ subst (λ (c : Cause). WritesAnswers c told out) (sym memory.0) (answers_whole meant told out memory.1 h)
+]
 
 -- only the line that ends a replay whose input was read to its end has the summary
 same_ending : (said : Cause) (told summary : Summary) → (said ≡ cause.Done → told ≡ summary) → ending_line said told ≡ ending_line said summary
@@ -51,44 +59,20 @@ same_ending cause.Memory told summary same = refl
 same_ending (cause.BadLine n) told summary same = refl
 same_ending (cause.Unbuilt n) told summary same = refl
 
-nil_front : (front rest : List ℕ) → [] ≡ front ++ rest → front ≡ []
-nil_front [] rest none = refl
-nil_front (x ∷ front) rest none = cc
-
--- a text behind another that was written whole
-behind_whole : (said last : Cause) (before text out : List ℕ) → WritesFor said last text out → WritesFor said last (before ++ text) (before ++ out)
-behind_whole said last before text out h = elim h [
-  | inl whole ↦ inl (whole.0, ap (λ (t : List ℕ). before ++ t) whole.1)
-  | inr front ↦ inr (front.0, front.1, ap (λ (t : List ℕ). before ++ t) front.2 ∙ sym (append_assoc before out front.1))
-]
-
--- nothing behind a text of which a front was written
-behind_front : (last : Cause) (text out rest more : List ℕ) → text ≡ out ++ rest → WritesFor cause.Write last [] more → WritesFor cause.Write last (text ++ []) (out ++ more)
-behind_front last text out rest more front h =
-    let none : (last ≡ cause.Write) × (more ≡ []) = elim h [ inl whole ↦ whole | inr part ↦ (part.0, nil_front more part.1 part.2) ] in
-    inr (none.0, rest, append-nil text ∙ front ∙ ap (λ (t : List ℕ). t ++ rest) (sym (ap (λ (m : List ℕ). out ++ m) none.1 ∙ append-nil out)))
-
-written_by : (meant said last : Cause) (told summary : Summary) (text out more : List ℕ) → (meant ≡ cause.Done → told ≡ summary)
-    → (said ≡ meant) ⊎ ((said ≡ cause.Memory) × (meant ≢ cause.Write)) → WritesTextFor meant text out → WritesFor said last (ending_line said told) more
-    → WritesFor said last (text ++ ending_line said summary) (out ++ more)
-written_by meant said last told summary text out more counted why wrote h =
+-- the last line as it was written, where only a call that is done tells of a summary
+ending_by : (meant said last : Cause) (told summary : Summary) (out : List ℕ) → (meant ≡ cause.Done → told ≡ summary)
+    → (said ≡ meant) ⊎ ((said ≡ cause.Memory) × (meant ≢ cause.Write)) → WritesFor said last (ending_line said told) out
+    → WritesFor said last (ending_line said summary) out
+ending_by meant said last told summary out counted why h =
     let same : ending_line said told ≡ ending_line said summary = same_ending said told summary
     (λ done. elim why [ inl meant_it ↦ counted (sym meant_it ∙ done) | inr memory ↦ (let no : cause.Done ≡ cause.Memory = sym done ∙ memory.0 in cc) ]) in
-    let ended = subst (λ (t : List ℕ). WritesFor said last t more) same h in
-    elim (front_of meant text out wrote) [
-      | inl front ↦ elim why [
-        | inl meant_it ↦ (let is_write : said ≡ cause.Write = meant_it ∙ front.0 in
-            subst (λ (c : Cause). WritesFor c last (text ++ ending_line c summary) (out ++ more)) (sym is_write)
-            (behind_front last text out front.1 more front.2 (subst (λ (c : Cause). WritesFor c last (ending_line c summary) more) is_write ended)))
-        | inr memory ↦ absurd (memory.1 front.0)
-      ]
-      | inr whole ↦ subst (λ (o : List ℕ). WritesFor said last (text ++ ending_line said summary) (o ++ more)) (sym whole) (behind_whole said last text (ending_line said summary) more ended)
-    ]
+    subst (λ (t : List ℕ). WritesFor said last t out) same h
 
-ends_by : (meant said : Cause) (count : ℕ) (before after : Option (List ℕ)) → (said ≡ meant) ⊎ ((said ≡ cause.Memory) × (meant ≢ cause.Write)) → EndsFor meant count before after → EndsFor said count before after
-ends_by meant said count before after why ends = elim why [
-  | inl same ↦ subst (λ (c : Cause). EndsFor c count before after) (sym same) ends
-  | inr memory ↦ subst (λ (c : Cause). EndsFor c count before after) (sym memory.0) (ends_any meant count before after ends)
+ends_by : (meant said : Cause) (lines : List (List ℕ)) (before after : Option (List ℕ)) → (said ≡ meant) ⊎ ((said ≡ cause.Memory) × (meant ≢ cause.Write))
+    → EndsFor meant lines before after → EndsFor said lines before after
+ends_by meant said lines before after why ends = elim why [
+  | inl same ↦ subst (λ (c : Cause). EndsFor c lines before after) (sym same) ends
+  | inr memory ↦ subst (λ (c : Cause). EndsFor c lines before after) (sym memory.0) (ends_any meant lines before after ends)
 ]
 
 -- the answers that were told are the same where it was said that memory was short after all
@@ -113,15 +97,19 @@ runs_replay pages count left left_after taken between taken_after session meant 
     taken = reading.each;
     few = reading.few;
     said = ending.said;
-    ends = ends_by meant ending.said (length reading.lines) reading.rest left_after ending.cause reading.ends;
+    ends = ends_by meant ending.said reading.lines reading.rest left_after ending.cause reading.ends;
     session = session;
     is = reading.is;
     answered = refl;
     recorded = refl;
     told = reading.told;
     told_is = told_by meant ending.said session.answers reading.told ending.cause reading.told_is;
-    written = written_by meant ending.said last (summary_of count session) (summary_of (length reading.lines) session) (answer_lines reading.told) reading.out ending.out
-        (λ done. ap (λ (n : ℕ). summary_of n session) (sym (reading.counted done))) ending.cause reading.written ending.written;
+    text = reading.out;
+    answers_written = answers_by meant ending.said reading.told reading.out ending.cause reading.written;
+    ending = ending.out;
+    ending_written = ending_by meant ending.said last (summary_of count session) (summary_of (length reading.lines) session) ending.out
+        (λ done. ap (λ (n : ℕ). summary_of n session) (sym (reading.counted done))) ending.cause ending.written;
+    written = refl;
   };
 }
 
@@ -206,7 +194,7 @@ end_told (Some rest) (Some after) h = h.rest
 -- where the replay is done the source is at its end
 pub done_at_end : (pages : ℕ) (left left_after : Option (List ℕ)) (answers : List Answer) (items : List Item) (last : Cause) (out : List ℕ)
     → IsReplay pages left left_after answers items last out → last ≡ cause.Done → IfSome left_after (λ bytes. bytes ≡ [])
-done_at_end pages left left_after answers items last out replay done = elim replay.written [
-  | inl whole ↦ end_told replay.rest left_after (subst (λ (c : Cause). EndsFor c (length replay.lines) replay.rest left_after) (sym whole.0 ∙ done) replay.ends)
+done_at_end pages left left_after answers items last out replay done = elim replay.ending_written [
+  | inl whole ↦ end_told replay.rest left_after (subst (λ (c : Cause). EndsFor c replay.lines replay.rest left_after) (sym whole.0 ∙ done) replay.ends)
   | inr part ↦ (let no : cause.Done ≡ cause.Write = sym done ∙ part.0 in cc)
 ]

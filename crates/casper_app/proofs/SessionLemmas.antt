@@ -1,11 +1,11 @@
 use Rattle.std.proofs.Common.{◌≡◌, ℕ, ◌+◌, Bool, true, false, List, [], ◌∷◌, ◌++◌, Option, Some, None, fold, refl, sym, ap, subst, ◌∙◌, append_assoc, zero-add, cond, arith}
-use Rattle.std.specs.List.{list_all, cons_option}
+use Rattle.std.specs.List.{cons_option}
 use Rattle.std.specs.Prelude.{IsTrue}
 use Rattle.std.proofs.lemmas.List.{append-nil}
 use Rattle.std.specs.Option.{option_map_or}
 use Rattle.casper_trail.specs.Value.{zero_pages}
 use Rattle.casper_trail.specs.Legal.{IsLegal}
-use Rattle.casper_text.specs.Line.{words}
+use Rattle.casper_text.specs.Line.{all_printable, words}
 use Rattle.casper_model.specs.declared.event.Event.{Event}
 use Rattle.casper_model.specs.declared.event.Event.TheVariants as event
 use Rattle.casper_model.specs.Outside.{NothingFailed}
@@ -17,7 +17,7 @@ use Rattle.casper_model.specs.WholeHistory.{whole_of}
 use Rattle.casper_model.proofs.RunHistory.{every_run_legal}
 use Rattle.casper_model.proofs.WholeRuns.{every_run_whole}
 use Rattle.casper_app.specs.declared.schedule.Parsed.TheVariants as parsed
-use Rattle.casper_app.specs.Schedule.{event_of, is_unbuilt, is_comment, is_printable, refused_as, parsed_words, parsed_line}
+use Rattle.casper_app.specs.Schedule.{event_of, is_unbuilt, is_comment, refused_as, parsed_words, parsed_line}
 use Rattle.casper_app.specs.Grammar.{IsEvent}
 use Rattle.casper_app.specs.Lines.{event_asked, event_in, events_in}
 use Rattle.casper_app.specs.Session.{Session, at_start, after_event, zero_state, most_entries, most_held}
@@ -85,7 +85,7 @@ words_ask (first ∷ rest) = by_event (event_of (first ∷ rest)) (λ asked asks
     by_event (Some asked) is = is asked refl
 
 line_asks : (line : List ℕ) → WhereAsked IsEvent (event_in line)
-line_asks line = by_tests (list_all is_printable line) (is_comment line)
+line_asks line = by_tests (all_printable line) (is_comment line)
   where
     by_tests : (printable comment : Bool) → WhereAsked IsEvent (event_asked (cond printable (cond comment parsed.Skip (parsed_words (words line))) parsed.Bad))
     by_tests true true = tt

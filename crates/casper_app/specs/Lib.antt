@@ -2,6 +2,7 @@ pub mod At
 pub mod Command
 pub mod Ending
 pub mod Grammar
+pub mod LineLaws
 pub mod Lines
 pub mod Machine
 pub mod Reading

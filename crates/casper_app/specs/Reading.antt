@@ -5,7 +5,7 @@ use Rattle.casper_app.specs.declared.cause.Cause.{Cause}
 use Rattle.casper_app.specs.declared.cause.Cause.TheVariants as cause
 use Rattle.casper_app.specs.Session.{Session, session_after}
 use Rattle.casper_app.specs.Lines.{events_in, AreTaken}
-use Rattle.casper_app.specs.Replay.{ReadsLines, EndsFor, IsTold, most_lines}
+use Rattle.casper_app.specs.Replay.{ReadsLines, EndsFor, IsTold, WritesAnswers, most_lines}
 use Rattle.casper_app.specs.Texts.{answer_lines}
 
 -- so many lines were skipped or answered, from the bytes left at first, and their answers were written
@@ -17,16 +17,6 @@ pub record Stands (pages count : ℕ) (first left taken_first taken : Option (Li
   pub is : session ≡ session_after pages (events_in lines)
   pub written : taken ≡ append_known taken_first (answer_lines session.answers)
 
--- where the sink failed a front of the text was written, and else the text
-abbrev pub WritesTextFor : Cause → List ℕ → List ℕ → Type 0
-WritesTextFor cause.Write text out = (rest : List ℕ) × (text ≡ out ++ rest)
-WritesTextFor cause.Done text out = out ≡ text
-WritesTextFor cause.Usage text out = out ≡ text
-WritesTextFor cause.Read text out = out ≡ text
-WritesTextFor cause.Memory text out = out ≡ text
-WritesTextFor (cause.BadLine n) text out = out ≡ text
-WritesTextFor (cause.Unbuilt n) text out = out ≡ text
-
 -- lines were read and answered, one after another, until the reading ended for a cause
 pub record IsReading (pages : ℕ) (first left taken_first taken : Option (List ℕ)) (session : Session) (said : Cause) (count : ℕ) : Type 0 where
   pub lines : List (List ℕ)
@@ -35,10 +25,10 @@ pub record IsReading (pages : ℕ) (first left taken_first taken : Option (List 
   pub each : AreTaken lines
   pub few : length lines ≤ most_lines
   pub counted : said ≡ cause.Done → length lines ≡ count
-  pub ends : EndsFor said (length lines) rest left
+  pub ends : EndsFor said lines rest left
   pub is : session ≡ session_after pages (events_in lines)
   pub out : List ℕ
   pub taken_is : taken ≡ append_known taken_first out
   pub told : List Answer
   pub told_is : IsTold said session.answers told
-  pub written : WritesTextFor said (answer_lines told) out
+  pub written : WritesAnswers said told out

@@ -1,9 +1,10 @@
-use Rattle.std.specs.Prelude.{◌≡◌, ℕ, ◌+◌, ◌≤◌, List, [], ◌∷◌, ◌++◌, length, Option, Result, ◌⊎◌}
+use Rattle.std.specs.Prelude.{◌≡◌, ◌≢◌, ℕ, ◌+◌, ◌≤◌, List, [], ◌∷◌, ◌++◌, length, Option, Some, Result, ◌⊎◌}
 use Rattle.casper_io.specs.declared.fault.IoFault.{IoFault}
 use Rattle.casper_io.specs.declared.lines.Next.{Next}
 use Rattle.casper_io.specs.Lines.{Takes, TakesLine, TakesEnd, TakesTooLong, TakesPart}
 use Rattle.casper_io.specs.Told.{WhereTold}
 use Rattle.casper_trail.specs.declared.item.Item.{Item}
+use Rattle.casper_model.specs.declared.event.Event.{Event}
 use Rattle.casper_space.specs.declared.answer.Answer.{Answer}
 use Rattle.casper_app.specs.declared.cause.Cause.{Cause}
 use Rattle.casper_app.specs.declared.cause.Cause.TheVariants as cause
@@ -11,8 +12,8 @@ use Rattle.casper_app.specs.declared.schedule.Parsed.TheVariants as parsed
 use Rattle.casper_app.specs.Schedule.{parsed_line}
 use Rattle.casper_app.specs.declared.summary.Summary.{Summary}
 use Rattle.casper_app.specs.Session.{Session, session_after, trail_of, summary_of}
-use Rattle.casper_app.specs.Lines.{events_in, AreTaken}
-use Rattle.casper_app.specs.Texts.{answer_lines, summary_line, cause_line}
+use Rattle.casper_app.specs.Lines.{event_in, events_in, AreTaken}
+use Rattle.casper_app.specs.Texts.{answer_line, answer_lines, summary_line, cause_line}
 
 -- the greatest number of lines of one input
 abbrev pub most_lines : ℕ
@@ -36,15 +37,24 @@ TakesBadLine number before after = (line : List ℕ) × (WhereTold before after 
 abbrev pub TakesUnbuilt : ℕ → Option (List ℕ) → Option (List ℕ) → Type 0
 TakesUnbuilt number before after = (number ≤ most_lines) × (line : List ℕ) × WhereTold before after (TakesLine line) × (parsed_line line ≡ parsed.Unbuilt)
 
--- behind so many lines that were skipped or answered, the reading ended for this cause
-abbrev pub EndsFor : Cause → ℕ → Option (List ℕ) → Option (List ℕ) → Type 0
-EndsFor cause.Done count before after = WhereTold before after (TakesEnd [])
-EndsFor cause.Usage count before after = ⊥
-EndsFor cause.Read count before after = (part : List ℕ) × WhereTold before after (TakesPart part)
-EndsFor cause.Write count before after = before ≡ after
-EndsFor cause.Memory count before after = TakesAny before after
-EndsFor (cause.BadLine number) count before after = (number ≡ count + 1) × TakesBadLine number before after
-EndsFor (cause.Unbuilt number) count before after = (number ≡ count + 1) × TakesUnbuilt number before after
+-- the last of these lines asks for an event
+pub record AsksLast (lines : List (List ℕ)) : Type 0 where
+  pub front : List (List ℕ)
+  pub line : List ℕ
+  pub is_last : lines ≡ front ++ line ∷ []
+  pub asked : Event
+  pub asks : event_in line ≡ Some asked
+
+-- after these lines, which were skipped or answered, the reading ended for this cause. Where the sink failed at an answer, the last
+-- of the lines is the one that was answered, and nothing after it was taken
+abbrev pub EndsFor : Cause → List (List ℕ) → Option (List ℕ) → Option (List ℕ) → Type 0
+EndsFor cause.Done lines before after = WhereTold before after (TakesEnd [])
+EndsFor cause.Usage lines before after = ⊥
+EndsFor cause.Read lines before after = (part : List ℕ) × WhereTold before after (TakesPart part)
+EndsFor cause.Write lines before after = (before ≡ after) × AsksLast lines
+EndsFor cause.Memory lines before after = TakesAny before after
+EndsFor (cause.BadLine number) lines before after = (number ≡ length lines + 1) × TakesBadLine number before after
+EndsFor (cause.Unbuilt number) lines before after = (number ≡ length lines + 1) × TakesUnbuilt number before after
 
 -- the line that tells how a replay ended
 abbrev pub ending_line : Cause → Summary → List ℕ
@@ -56,9 +66,32 @@ ending_line cause.Memory summary = cause_line cause.Memory
 ending_line (cause.BadLine number) summary = cause_line (cause.BadLine number)
 ending_line (cause.Unbuilt number) summary = cause_line (cause.Unbuilt number)
 
--- a text was written whole, and the cause stands; or a front of it, and the sink failed
+-- these bytes are a front of a text, and not all of it
+abbrev pub IsCut : List ℕ → List ℕ → Type 0
+IsCut text out = (rest : List ℕ) × (rest ≢ []) × (text ≡ out ++ rest)
+
+-- the last line was written whole, and the cause stands; or it was cut, and the sink failed
 abbrev pub WritesFor : Cause → Cause → List ℕ → List ℕ → Type 0
-WritesFor said last text out = ((last ≡ said) × (out ≡ text)) ⊎ ((last ≡ cause.Write) × (rest : List ℕ) × (text ≡ out ++ rest))
+WritesFor said last text out = ((last ≡ said) × (out ≡ text)) ⊎ ((last ≡ cause.Write) × IsCut text out)
+
+-- the text of all answers but the last was written whole, and that of the last was cut
+pub record WritesButTheLast (told : List Answer) (out : List ℕ) : Type 0 where
+  pub before : List Answer
+  pub last : Answer
+  pub is : told ≡ before ++ last ∷ []
+  pub part : List ℕ
+  pub cut : IsCut (answer_line last) part
+  pub written : out ≡ answer_lines before ++ part
+
+-- answers were written: all of them whole, or where the sink failed at one, that one was cut
+abbrev pub WritesAnswers : Cause → List Answer → List ℕ → Type 0
+WritesAnswers cause.Write told out = WritesButTheLast told out
+WritesAnswers cause.Done told out = out ≡ answer_lines told
+WritesAnswers cause.Usage told out = out ≡ answer_lines told
+WritesAnswers cause.Read told out = out ≡ answer_lines told
+WritesAnswers cause.Memory told out = out ≡ answer_lines told
+WritesAnswers (cause.BadLine number) told out = out ≡ answer_lines told
+WritesAnswers (cause.Unbuilt number) told out = out ≡ answer_lines told
 
 -- the answers whose text was meant to be written: all, or all but the last, for whose text memory was short
 abbrev pub IsTold : Cause → List Answer → List Answer → Type 0
@@ -74,16 +107,20 @@ pub record IsReplay (pages : ℕ) (before after : Option (List ℕ)) (answers : 
   pub few : length lines ≤ most_lines
   -- why the reading ended
   pub said : Cause
-  pub ends : EndsFor said (length lines) rest after
+  pub ends : EndsFor said lines rest after
   -- what stands behind the events that the lines ask for: the answers and the trail are its own
   pub session : Session
   pub is : session ≡ session_after pages (events_in lines)
   pub answered : answers ≡ session.answers
   pub recorded : items ≡ trail_of session
-  -- the answers were written, and then how it ended
+  -- the answers were written, each before the next line was read, and then how it ended
   pub told : List Answer
   pub told_is : IsTold said answers told
-  pub written : WritesFor said last (answer_lines told ++ ending_line said (summary_of (length lines) session)) out
+  pub text : List ℕ
+  pub answers_written : WritesAnswers said told text
+  pub ending : List ℕ
+  pub ending_written : WritesFor said last (ending_line said (summary_of (length lines) session)) ending
+  pub written : out ≡ text ++ ending
 
 -- what the last line would tell where nothing was read
 abbrev pub unread_summary : Summary

@@ -1,11 +1,11 @@
 use Rattle.std.specs.Prelude.{ℕ, ◌^◌, Bool, true, false, ◌&&◌, ◌||◌, ◌==◌, List, [], ◌∷◌, length, Option, Some, None, nat_le, nat_lt, if◌then◌else◌, codes, is_some, option_map, option_and_then}
-use Rattle.std.specs.List.{list_any, list_all, before_first, after_first}
+use Rattle.std.specs.List.{list_any, before_first, after_first}
 use Rattle.std.specs.Option.{option_map_or}
 use Rattle.std.specs.Str.{bytes_eq}
 use Rattle.casper_words.specs.declared.page.Right.{Right}
 use Rattle.casper_words.specs.declared.page.Right.TheVariants as may
 use Rattle.casper_words.specs.declared.page.Want.{Want}
-use Rattle.casper_text.specs.Line.{words}
+use Rattle.casper_text.specs.Line.{all_printable, words}
 use Rattle.casper_text.specs.Number.{number_of, number_below}
 use Rattle.casper_model.specs.declared.event.Event.{Event}
 use Rattle.casper_model.specs.declared.event.Event.TheVariants as event
@@ -137,10 +137,6 @@ abbrev pub parsed_words : List (List ℕ) → Parsed
 parsed_words [] = parsed.Skip
 parsed_words (first ∷ rest) = option_map_or (λ asked. parsed.Event asked) (event_of (first ∷ rest)) (refused_as first)
 
--- a byte that a line may have: from the space to `~`
-abbrev pub is_printable : ℕ → Bool
-is_printable byte = nat_le 32 byte && nat_le byte 126
-
 -- what a line of at most 1,024 bytes is
 abbrev pub parsed_line : List ℕ → Parsed
-parsed_line line = if list_all is_printable line then (if is_comment line then parsed.Skip else parsed_words (words line)) else parsed.Bad
+parsed_line line = if all_printable line then (if is_comment line then parsed.Skip else parsed_words (words line)) else parsed.Bad

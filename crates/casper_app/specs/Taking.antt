@@ -51,7 +51,7 @@ abbrev pub TakesInput : ℕ → List ℕ → Session → Session → Option (Lis
 TakesInput number line old new before after (Ok done) =
     IsTaken line × (new ≡ after_line old line) × (after ≡ append_known before (answer_lines (answers_in old line)))
 TakesInput number line old new before after (Err cause.Write) =
-    IsTaken line × (new ≡ after_line old line) × TakesFront before after (answer_lines (answers_in old line))
+    (carried : IsCarriedOut line old new) × TakesFront before after (answer_line (answer_in old carried.asked))
 TakesInput number line old new before after (Err cause.Memory) = ((new ≡ old) ⊎ IsCarriedOut line old new) × (after ≡ before)
 TakesInput number line old new before after (Err cause.Done) = ⊥
 TakesInput number line old new before after (Err cause.Usage) = ⊥

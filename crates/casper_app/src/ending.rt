@@ -19,7 +19,9 @@ pub(crate) fn write_ending<K: Sink>(
 ) -> Cause
     ensures ends { EndsWith meant result summary.now (K.taken sink.old) (K.taken sink.new) }
     ensures fault { result ≡ Cause.Write → (meant ≡ Cause.Write) ⊎ Rose (K.faults sink.old) (K.faults sink.new) }
-    ensures never_falls { K.faults sink.old ≤ K.faults sink.new }
+    ensures sink_stands { (result ≡ Cause.Write) ⊎ (K.faults sink.new ≡ K.faults sink.old) }
+    ensures cause { (result ≡ meant) ⊎ (result ≡ Cause.Write) ⊎ (result ≡ Cause.Memory) }
+    ensures untouched { meant ≡ Cause.Write → K.faults sink.new ≡ K.faults sink.old }
     ensures read { result ≡ Cause.Read → meant ≡ Cause.Read }
     ensures done { result ≡ Cause.Done → meant ≡ Cause.Done }
 {
@@ -46,8 +48,8 @@ fn ending_text(alloc: Global, said: Cause, summary: &Summary) -> Result<String, 
 fn write_last<K: Sink>(sink: &mut K, bytes: &[u8], said: Cause) -> Cause
     ensures written { WritesLast said result bytes.now (K.taken sink.old) (K.taken sink.new) }
     ensures fault { result ≡ Cause.Write → (said ≡ Cause.Write) ⊎ Rose (K.faults sink.old) (K.faults sink.new) }
-    ensures said { result ≢ Cause.Write → result ≡ said }
-    ensures never_falls { K.faults sink.old ≤ K.faults sink.new }
+    ensures said { (result ≡ said) ⊎ (result ≡ Cause.Write) }
+    ensures sink_stands { (result ≡ Cause.Write) ⊎ (K.faults sink.new ≡ K.faults sink.old) }
 {
     match put_all(sink, bytes) {
         Ok(()) => said,

@@ -1,16 +1,25 @@
 ghost use Rattle.casper_app.specs.Grammar.{EventsAreReadBack, EventsHaveOneText};
-ghost use Rattle.casper_app.specs.Machine.{SessionsRunTheMachine, LinesNameClients, SessionsAreLegal};
+ghost use Rattle.casper_app.specs.LineLaws.{LinesAreSorted, ReplaysHaveOneText};
+ghost use Rattle.casper_app.specs.Machine.{SessionsRunTheMachine, LinesNameClients, SessionsAreLegal, SessionsKeepCalls};
 
-/// The lines of a schedule and the events that they ask for determine each other. It does nothing.
+/// The lines of a schedule and the events that they ask for determine each other. Each line is one of these and no other: it is
+/// skipped, as a comment or without a word; it has the words of an event; it has those of none and begins with a client's number or
+/// the verb of a line that is not built yet; or it is bad. And one pair of words asks for a replay over a store in memory. It does
+/// nothing.
 pub fn schedule_laws()
     ensures read_back { EventsAreReadBack }
     ensures one_text { EventsHaveOneText }
+    ensures sorted { LinesAreSorted }
+    ensures replays { ReplaysHaveOneText }
 {}
 
 /// What stands behind lines is a run of the machine for the events that they ask for, each of which names a client; so
-/// the trail is legal over the store's zero pages, and with all pending calls behind it. It does nothing.
+/// the trail is legal over the store's zero pages, and with all pending calls behind it. A client's recorded calls and then
+/// its pending ones are those that the answers complete, in their order, unless it is answered that it was rolled back, or
+/// vanishes. It does nothing.
 pub fn session_laws()
     ensures machine { SessionsRunTheMachine }
     ensures clients { LinesNameClients }
     ensures legal { SessionsAreLegal }
+    ensures calls { SessionsKeepCalls }
 {}

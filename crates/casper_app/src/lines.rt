@@ -1,4 +1,4 @@
-ghost use Rattle.std.specs.Prelude.{◌≡◌, ◌+◌, ◌<◌, ◌≤◌, ℕ};
+ghost use Rattle.std.specs.Prelude.{◌≡◌, ◌⊎◌, ◌+◌, ◌<◌, ◌≤◌, ℕ};
 ghost use Rattle.casper_words.specs.Count.{Rose};
 ghost use Rattle.casper_app.specs.At.{IsAt};
 ghost use Rattle.casper_app.specs.Session.{Session, at_start};
@@ -36,8 +36,8 @@ pub(crate) fn take_lines<S: Source, K: Sink>(
         × IsReading pages (S.left source.old) (S.left source.new) (K.taken sink.old) (K.taken sink.new) session result.said result.lines }
     ensures read_fault { result.said ≡ Cause.Read → Rose (S.faults source.old) (S.faults source.new) }
     ensures write_fault { result.said ≡ Cause.Write → Rose (K.faults sink.old) (K.faults sink.new) }
-    ensures source_never_falls { S.faults source.old ≤ S.faults source.new }
-    ensures sink_never_falls { K.faults sink.old ≤ K.faults sink.new }
+    ensures source_stands { (result.said ≡ Cause.Read) ⊎ (S.faults source.new ≡ S.faults source.old) }
+    ensures sink_stands { (result.said ≡ Cause.Write) ⊎ (K.faults sink.new ≡ K.faults sink.old) }
 {
     let _mark: Option<Mark> = None;
     for lines in 0..MOST_LINES {

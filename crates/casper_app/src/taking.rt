@@ -1,4 +1,4 @@
-ghost use Rattle.std.specs.Prelude.{◌≡◌, ◌≢◌, ◌+◌, ◌<◌, ◌≤◌, length, MatchOption, Some, Err};
+ghost use Rattle.std.specs.Prelude.{◌≡◌, ◌≢◌, ◌⊎◌, ◌+◌, ◌<◌, ◌≤◌, length, MatchOption, Some, Err};
 ghost use Rattle.casper_core.specs.Stepping.{IsBuilt};
 ghost use Rattle.casper_words.specs.Count.{Rose};
 ghost use Rattle.casper_io.specs.Lines.{TakesLine};
@@ -21,7 +21,7 @@ pub(crate) fn read_line<S: Source>(source: &mut S, line: &mut Line, number: u32)
         (WhereTold (S.left source.old) (S.left source.new) (TakesLine line.new))
         (λ ended. NextEnds ended number (S.left source.old) (S.left source.new)) }
     ensures fault { result ≡ Some Cause.Read → Rose (S.faults source.old) (S.faults source.new) }
-    ensures never_falls { S.faults source.old ≤ S.faults source.new }
+    ensures source_stands { (result ≡ Some Cause.Read) ⊎ (S.faults source.new ≡ S.faults source.old) }
     ensures short { length line.new ≤ 1024 }
 {
     match next_line(source, line) {
@@ -48,7 +48,7 @@ impl Replay {
         ensures calls { self.new.core.calls ≤ self.old.core.calls + 1 }
         ensures read { result ≢ Err Cause.Read }
         ensures fault { result ≡ Err Cause.Write → Rose (K.faults sink.old) (K.faults sink.new) }
-        ensures never_falls { K.faults sink.old ≤ K.faults sink.new }
+        ensures sink_stands { (result ≡ Err Cause.Write) ⊎ (K.faults sink.new ≡ K.faults sink.old) }
     {
         match parse_line(alloc, line)? {
             Parsed::Skip => Ok(()),
@@ -72,7 +72,7 @@ impl Replay {
         ensures calls { self.new.core.calls ≤ self.old.core.calls + 1 }
         ensures read { result ≢ Err Cause.Read }
         ensures fault { result ≡ Err Cause.Write → Rose (K.faults sink.old) (K.faults sink.new) }
-        ensures never_falls { K.faults sink.old ≤ K.faults sink.new }
+        ensures sink_stands { (result ≡ Err Cause.Write) ⊎ (K.faults sink.new ≡ K.faults sink.old) }
     {
         let answer = self.carry_out(event)?;
         let text = answer_text(alloc, &answer)?;

@@ -42,11 +42,15 @@ pub fn run<S: Source, K: Sink>(alloc: Global, words: &[Word], source: &mut S, si
         result.answers.items result.trail.items result.last }
     // What was recorded is one legal history of a plain page array, and so it is with the calls that are pending behind it.
     ensures legal { IsLegalRun words.now (S.left source.old) result.answers.items result.trail.items }
-    // Status 0 says that the input was read to its end.
+    // Status 0 says that the input was read to its end. A fault of the input or of the output ends the call: that of the
+    // input with status 3, unless the output fails or memory is short at the last line, and that of the output with status 4.
     ensures end { result.last ≡ Cause.Done → IfSome (S.left source.new) (λ left. left ≡ []) }
     ensures status { result.status ≡ status_of result.last }
     ensures read_fault { result.last ≡ Cause.Read → Rose (S.faults source.old) (S.faults source.new) }
+    ensures source_stands { (result.last ≡ Cause.Read) ⊎ (result.last ≡ Cause.Write) ⊎ (result.last ≡ Cause.Memory)
+        ⊎ (S.faults source.new ≡ S.faults source.old) }
     ensures write_fault { result.last ≡ Cause.Write → Rose (K.faults sink.old) (K.faults sink.new) }
+    ensures sink_stands { (result.last ≡ Cause.Write) ⊎ (K.faults sink.new ≡ K.faults sink.old) }
 {
     match pages_asked(words) {
         Ok(pages) => replay(alloc, pages, source, sink),
@@ -63,7 +67,10 @@ fn replay<S: Source, K: Sink>(alloc: Global, pages: u32, source: &mut S, sink: &
     ensures end { result.last ≡ Cause.Done → IfSome (S.left source.new) (λ left. left ≡ []) }
     ensures status { result.status ≡ status_of result.last }
     ensures read_fault { result.last ≡ Cause.Read → Rose (S.faults source.old) (S.faults source.new) }
+    ensures source_stands { (result.last ≡ Cause.Read) ⊎ (result.last ≡ Cause.Write) ⊎ (result.last ≡ Cause.Memory)
+        ⊎ (S.faults source.new ≡ S.faults source.old) }
     ensures write_fault { result.last ≡ Cause.Write → Rose (K.faults sink.old) (K.faults sink.new) }
+    ensures sink_stands { (result.last ≡ Cause.Write) ⊎ (K.faults sink.new ≡ K.faults sink.old) }
 {
     let (mut line, mut replay) = match rooms(alloc, pages) {
         Ok(rooms) => rooms,
@@ -100,6 +107,7 @@ fn end_unread<K: Sink>(alloc: Global, meant: Cause, sink: &mut K) -> Ended
     ensures status { result.status ≡ status_of result.last }
     ensures read { result.last ≡ Cause.Read → meant ≡ Cause.Read }
     ensures fault { result.last ≡ Cause.Write → (meant ≡ Cause.Write) ⊎ Rose (K.faults sink.old) (K.faults sink.new) }
+    ensures sink_stands { (result.last ≡ Cause.Write) ⊎ (K.faults sink.new ≡ K.faults sink.old) }
     ensures done { result.last ≡ Cause.Done → meant ≡ Cause.Done }
 {
     let summary = Summary {

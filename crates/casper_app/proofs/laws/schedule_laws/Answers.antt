@@ -1,4 +1,5 @@
 use Rattle.casper_app.proofs.GrammarLemmas.{events_are_read_back, events_have_one_text}
+use Rattle.casper_app.proofs.LineLawLemmas.{lines_are_sorted, replays_have_one_text}
 use Rattle.casper_app.proofs.laws.schedule_laws.Goals as goal
 
 pub returns-clause-read_back : goal.returns-clause-read_back
@@ -6,3 +7,9 @@ returns-clause-read_back c = events_are_read_back
 
 pub returns-clause-one_text : goal.returns-clause-one_text
 returns-clause-one_text c = events_have_one_text
+
+pub returns-clause-sorted : goal.returns-clause-sorted
+returns-clause-sorted c = lines_are_sorted
+
+pub returns-clause-replays : goal.returns-clause-replays
+returns-clause-replays c = replays_have_one_text

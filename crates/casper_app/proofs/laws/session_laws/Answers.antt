@@ -1,4 +1,5 @@
 use Rattle.casper_app.proofs.SessionLemmas.{sessions_run_the_machine, lines_name_clients, sessions_are_legal}
+use Rattle.casper_app.proofs.CallLemmas.{sessions_keep_calls}
 use Rattle.casper_app.proofs.laws.session_laws.Goals as goal
 
 pub returns-clause-machine : goal.returns-clause-machine
@@ -9,3 +10,6 @@ returns-clause-clients c = lines_name_clients
 
 pub returns-clause-legal : goal.returns-clause-legal
 returns-clause-legal c = sessions_are_legal
+
+pub returns-clause-calls : goal.returns-clause-calls
+returns-clause-calls c = sessions_keep_calls

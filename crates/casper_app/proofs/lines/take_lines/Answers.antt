@@ -1,4 +1,4 @@
-use Rattle.std.proofs.Common.{◌+◌, arith, Ok, Err}
+use Rattle.std.proofs.Common.{◌+◌, ◌∙◌, arith, Ok, Err, refl, inl, inr}
 use Rattle.casper_app.specs.Session.{at_start}
 use Rattle.casper_app.proofs.ReadingLemmas.{stands_first, stands_more, reading_ended, reading_at_most, reading_refused, input_at}
 use Rattle.casper_app.proofs.lines.take_lines.Goals as goal
@@ -7,8 +7,8 @@ pub loop-lines-init : goal.loop-lines-init
 loop-lines-init g c = (
   λ pages at. (at_start pages, at, stands_first pages _ _),
   omega (arith, c.requires),
-  omega arith,
-  omega arith,
+  refl,
+  refl,
 )
 
 pub returns-in-Some-clause-reading : goal.returns-in-Some-clause-reading
@@ -49,6 +49,6 @@ loop-lines-preserved g c = (
             before.2 (rw c.in_default.is at c.read_line.ensures.next) input.0 input.1 input.2,
       ),
   omega (arith, c.take_line.ensures.calls, c.loop-lines.invariant.1),
-  omega (arith, c.read_line.ensures.never_falls, c.loop-lines.invariant.2),
-  omega (arith, c.take_line.ensures.never_falls, c.loop-lines.invariant.3),
+  (elim c.read_line.ensures.source_stands [ inl ended ↦ (let none = ended in cc) | inr same ↦ same ]) ∙ c.loop-lines.invariant.2,
+  (elim c.in_default-take_line.ensures.sink_stands [ inl failed ↦ (let none = failed in cc) | inr same ↦ same ]) ∙ c.loop-lines.invariant.3,
 )

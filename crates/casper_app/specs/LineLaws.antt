@@ -1,0 +1,56 @@
+use Rattle.std.specs.Prelude.{◌≡◌, ◌≢◌, ◌⊎◌, ◌↔◌, ◌≤◌, ℕ, List, [], ◌∷◌, ◌++◌, All, Contains, Ok, codes}
+use Rattle.std.specs.Fmt.{decimal}
+use Rattle.casper_words.specs.Crew.{IsClient}
+use Rattle.casper_text.specs.Line.{IsPrintable, words}
+use Rattle.casper_model.specs.declared.event.Event.{Event}
+use Rattle.casper_app.specs.declared.schedule.Parsed.TheVariants as parsed
+use Rattle.casper_app.specs.Command.{asked}
+use Rattle.casper_app.specs.Grammar.{words_of_event, IsEvent}
+use Rattle.casper_app.specs.Schedule.{unbuilt_verbs, parsed_line}
+
+-- a line that begins with `#`
+abbrev pub BeginsWithHash : List ℕ → Type 0
+BeginsWithHash line = (rest : List ℕ) × (line ≡ 35 ∷ rest)
+
+-- a line of bytes that may stand there, which is no comment
+pub record IsPlain (line : List ℕ) : Type 0 where
+  pub printable : All IsPrintable line
+  pub uncommented : BeginsWithHash line → ⊥
+
+-- a line that is skipped: a comment, or one without a word
+abbrev pub IsSkipped : List ℕ → Type 0
+IsSkipped line = All IsPrintable line × (BeginsWithHash line ⊎ (words line ≡ []))
+
+-- a line that asks for an event: its words are those of the event
+pub record AsksFor (line : List ℕ) (asked : Event) : Type 0 where
+  pub plain : IsPlain line
+  pub event : IsEvent asked
+  pub words_are : words line ≡ words_of_event asked
+
+-- a line that asks for no event and is known all the same: its first word is a client's number, or the verb of a line to come
+pub record IsUnbuilt (line : List ℕ) : Type 0 where
+  pub plain : IsPlain line
+  pub first : List ℕ
+  pub rest : List (List ℕ)
+  pub words_are : words line ≡ first ∷ rest
+  pub none : (asked : Event) → IsEvent asked → words line ≢ words_of_event asked
+  pub known : ((who : ℕ) × IsClient who × (first ≡ decimal who)) ⊎ Contains unbuilt_verbs first
+
+-- what a line is said to be is what it is, and each line is one of these and no other
+pub record IsSorted (line : List ℕ) : Type 0 where
+  pub skipped : (parsed_line line ≡ parsed.Skip) ↔ IsSkipped line
+  pub event : (asked : Event) → (parsed_line line ≡ parsed.Event asked) ↔ AsksFor line asked
+  pub unbuilt : (parsed_line line ≡ parsed.Unbuilt) ↔ IsUnbuilt line
+  pub bad : (parsed_line line ≡ parsed.Bad) ↔ ((IsSkipped line → ⊥) × ((asked : Event) → AsksFor line asked → ⊥) × (IsUnbuilt line → ⊥))
+
+abbrev pub LinesAreSorted : Type 0
+LinesAreSorted = (line : List ℕ) → IsSorted line
+
+-- the words of a replay over so many zero pages
+abbrev pub words_of_replay : ℕ → List (List ℕ)
+words_of_replay pages = codes "replay" ∷ (codes "mem:" ++ decimal pages) ∷ []
+
+-- these words, and no others, ask for a replay over so many pages, from 1 to 16,384
+abbrev pub ReplaysHaveOneText : Type 0
+ReplaysHaveOneText = (list : List (List ℕ)) (pages : ℕ)
+    → (asked list ≡ Ok pages) ↔ ((1 ≤ pages) × (pages ≤ 16384) × (list ≡ words_of_replay pages))
