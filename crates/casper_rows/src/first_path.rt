@@ -1,6 +1,6 @@
 use crate::replaying::{ROOM, replayed, words_of};
 use casper_app::{Cause, run};
-use casper_io::{MemSink, MemSource};
+use casper_io::{Line, MemSink, MemSource, Next, next_line};
 use casper_space::Answer;
 use casper_words::{Op, Who};
 use std::test::Fail;
@@ -144,6 +144,27 @@ fn each_write_fails(rt: HostRuntime) -> Result<(), Fail> {
         let (status, written) = replayed(rt.alloc(), "replay mem:8", ROW, &[], &[at as u64 + 1])?;
         assert_eq!(rt; status, 4, "at {at}");
         assert_eq!(rt; written.as_slice(), front, "at {at}");
+    }
+    Ok(())
+}
+
+/// Each line is answered before the next one is read: where the sink fails, the next line is still in the source.
+#[test]
+fn the_next_line_is_still_there(rt: HostRuntime) -> Result<(), Fail> {
+    let words = words_of(rt.alloc(), "replay mem:8")?;
+    let lines: [(u64, Next, &[u8]); 3] = [
+        (1, Next::Line, b"write 1 5 0 17"),
+        (2, Next::Line, b"read 1 5 0"),
+        (3, Next::End, b""),
+    ];
+    for (fails, next, bytes) in lines {
+        let mut source = MemSource::new(rt.alloc(), ROW, &[])?;
+        let mut sink = MemSink::new(rt.alloc(), ROOM, &[fails])?;
+        let ended = run(rt.alloc(), &words, &mut source, &mut sink);
+        assert_eq!(rt; ended.last, Cause::Write, "at {fails}");
+        let mut line = Line::new(rt.alloc())?;
+        assert_eq!(rt; next_line(&mut source, &mut line), Ok(next), "at {fails}");
+        assert_eq!(rt; line.bytes(), bytes, "at {fails}");
     }
     Ok(())
 }
