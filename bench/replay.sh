@@ -1,10 +1,16 @@
 #!/usr/bin/env bash
-# Replays schedules over memory, and prints lines per second and peak memory of each: hits of one client, recalls between two
-# clients, 8 clients over 64 pages, the same over a store of 16,384 pages, and grants of four pages a line, which fill the trail.
-# Usage: bench/replay.sh [LINES], 1,000,000 lines each unless said otherwise, at most 1,048,576.
+# Replays schedules over memory, and prints lines per second and peak memory of each. bench/README.md says what they are.
+# Usage: bench/replay.sh [LINES], 1,000,000 lines each unless said otherwise, from 16 to 1,048,576. Status 64 where it is no such number.
 set -eu
 top=$(cd "$(dirname "$0")/.." && pwd)
 lines=${1:-1000000}
+if [ $# -gt 1 ] || ! [[ $lines =~ ^[1-9][0-9]{1,6}$ ]] || [ "$lines" -lt 16 ] || [ "$lines" -gt 1048576 ]; then
+    echo "usage: bench/replay.sh [LINES], from 16 to 1048576" >&2
+    exit 64
+fi
+# It starts the program from a process of its own that is smaller than any run, so that the peak is the program's.
+clock=/usr/bin/time
+[ -x "$clock" ] || { echo "bench/replay.sh needs GNU time, as $clock" >&2; exit 69; }
 work=$(mktemp -d)
 trap 'rm -rf "$work"' EXIT
 
@@ -66,18 +72,13 @@ grants() {
 
 while read -r schedule pages; do
     "$schedule" >"$work/$schedule"
-    python3 - "$top/crates/casper/out/casper" "$work/$schedule" "$schedule" "$pages" "$lines" <<'PYTHON'
-import resource, subprocess, sys, time
-program, path, name, pages, lines = sys.argv[1], sys.argv[2], sys.argv[3], sys.argv[4], int(sys.argv[5])
-with open(path, "rb") as source, open(path + ".answers", "wb") as sink:
-    start = time.monotonic()
-    subprocess.run([program, "replay", f"mem:{pages}"], stdin=source, stdout=sink, check=True)
-    seconds = time.monotonic() - start
-peak = resource.getrusage(resource.RUSAGE_CHILDREN).ru_maxrss
-with open(path + ".answers") as answers:
-    last = answers.readlines()[-1].strip()
-print(f"{name}: pages={pages} lines={lines} seconds={seconds:.2f} lines_per_second={lines / seconds:.0f} peak_kb={peak} ({last})")
-PYTHON
+    "$clock" -f '%e %M' -o "$work/cost" "$top/crates/casper/out/casper" replay "mem:$pages" <"$work/$schedule" >"$work/answers"
+    read -r seconds peak <"$work/cost"
+    awk -v name="$schedule" -v pages="$pages" -v lines="$lines" -v seconds="$seconds" -v peak="$peak" 'END {
+        rate = seconds > 0 ? sprintf("%.0f", lines / seconds) : "unknown"
+        printf "%s: pages=%d lines=%d seconds=%s lines_per_second=%s peak_kb=%d (%s)\n", name, pages, lines, seconds, rate, peak, $0
+    }' "$work/answers"
+    rm "$work/$schedule" "$work/answers"
 done <<'SCHEDULES'
 hits 64
 recalls 64
