@@ -106,26 +106,3 @@ fn lowest_clear(word: u64, from: u32) -> Option<u32>
     }
     Some(filled.trailing_ones())
 }
-
-#[cfg(test)]
-mod tests {
-    use super::*;
-    use std::test::Fail;
-
-    #[test]
-    fn finds_the_lowest_free(rt: HostRuntime) -> Result<(), Fail> {
-        let mut set = FrameSet::new(rt.alloc(), 130)?;
-        assert_eq!(rt; set.size(), 130);
-        for frame in 0..129 {
-            set.insert(frame);
-        }
-        assert_eq!(rt; set.next_free(0), Some(129));
-        set.remove(64);
-        assert_eq!(rt; set.next_free(0), Some(64));
-        assert_eq!(rt; set.next_free(65), Some(129));
-        assert_eq!(rt; set.next_free(130), None);
-        assert_eq!(rt; set.has(64), false);
-        assert_eq!(rt; set.has(63), true);
-        Ok(())
-    }
-}
