@@ -55,7 +55,8 @@ impl Cache {
     pub fn new(alloc: Global, who: Who, capacity: u32) -> Result<Cache, Memory>
         requires least { 8 ≤ capacity }
         requires most { capacity ≤ 1024 }
-        ensures value { IfOk result (λ cache. cache ≡ record { client = who; capacity = capacity; held = []; pending = []; cap = 0 }) }
+        ensures value { IfOk result (λ cache. cache
+            ≡ record { client = who; capacity = capacity; held = []; pending = []; cap = 0 }) }
         ensures sound { IfOk result (λ cache. IsSound cache) }
     {
         let mut pending = Calls::new(alloc);
@@ -100,7 +101,9 @@ impl Cache {
         requires { word < 512 }
         ensures exactly { IsSome result ↔ CanRead self.old page }
         ensures value { IfSome result (λ value. value ≡ word_of page word self.old.held) }
-        ensures hit { IfSome result (λ value. self.new ≡ after_read self.old (record { op = Op.Read; page = page; word = word; value = value })) }
+        ensures hit { IfSome result (λ value. self.new
+            ≡ after_read self.old
+            (record { op = Op.Read; page = page; word = word; value = value })) }
         ensures miss { IfNone result (self.new ≡ self.old) }
         ensures sound { IsSound self.new }
     {
@@ -127,7 +130,9 @@ impl Cache {
     pub fn hit_write(&mut self, page: Page, word: u32, value: u64) -> bool
         requires { word < 512 }
         ensures exactly { IsTrue result ↔ CanWrite self.old page }
-        ensures hit { OnTrue result (self.new ≡ after_write self.old (record { op = Op.Write; page = page; word = word; value = value })) }
+        ensures hit { OnTrue result (self.new
+            ≡ after_write self.old
+            (record { op = Op.Write; page = page; word = word; value = value })) }
         ensures miss { OnFalse result (self.new ≡ self.old) }
         ensures sound { IsSound self.new }
     {
@@ -155,8 +160,13 @@ impl Cache {
     /// is held takes the new right and frame, and this can't fail. For a page that is not, memory may be
     /// short: the frame is then given back, and nothing has changed.
     pub fn install(&mut self, page: Page, right: Right, frame: Frame) -> Result<(), (Frame, Memory)>
-        requires { IsNone (right_of page self.old.held) → length self.old.held < self.old.capacity + 4 }
-        ensures ok { OnOk result (self.new ≡ record self.old { held = (record { page = page; right = right; words = frame }) ∷ others page self.old.held }) }
+        requires { IsNone (right_of page self.old.held)
+            → length self.old.held < self.old.capacity + 4 }
+        ensures ok { OnOk result (self.new
+            ≡ record self.old {
+              held =
+                  (record { page = page; right = right; words = frame }) ∷ others page self.old.held;
+            }) }
         ensures succeeds { IsSome (right_of page self.old.held) → IsOk result }
         ensures err { OnErr result (self.new ≡ self.old) }
         ensures returned { IfErr result (λ refusal. refusal.0 ≡ frame) }
@@ -215,7 +225,11 @@ impl Cache {
     /// Gives a held page up: wholly, or where it is kept, to the right to read, in its place.
     pub fn give_up(&mut self, page: Page, keep: bool)
         requires { IsSome (right_of page self.old.held) }
-        ensures given { self.new ≡ record self.old { held = (if keep then lowered page self.old.held else others page self.old.held) } }
+        ensures given { self.new
+            ≡ record self.old {
+              held =
+                  (if keep then lowered page self.old.held else others page self.old.held);
+            } }
         ensures sound { IsSound self.new }
     {
         let Some(place) = place_of(&self.held, page) else {

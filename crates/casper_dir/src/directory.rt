@@ -30,7 +30,8 @@ impl Directory {
     /// The directory of a store of so many pages, which nobody holds. No other call takes memory.
     pub fn new(alloc: Global, pages: u32) -> Result<Directory, Memory>
         ensures pages { IfOk result (λ rights. length rights ≡ pages) }
-        ensures none { IfOk result (λ rights. (client page : ℕ) → right_at rights client page ≡ None) }
+        ensures none { IfOk result (λ rights. (client page : ℕ)
+            → right_at rights client page ≡ None) }
         ensures clients { IfOk result (λ rights. AreAllClients rights) }
     {
         let mut holders = Vec::with_capacity(alloc, pages as usize)?;
@@ -73,7 +74,8 @@ impl Directory {
         requires page { page < length self.old }
         requires free { conflicts_at self.old page who right ≡ [] }
         ensures pages { length self.new ≡ length self.old }
-        ensures rights { ChangesOneRight self.old self.new who page (Some (raised (right_at self.old who page) right)) }
+        ensures rights { ChangesOneRight self.old self.new who page
+            (Some (raised (right_at self.old who page) right)) }
         ensures clients { AreAllClients self.new }
     {
         let number = who.number();

@@ -46,7 +46,9 @@ impl Holders {
 
     /// The other clients whose right is in conflict with what a client wants.
     pub fn conflicts(self, who: Who, want: Right) -> Crew
-        ensures { result ≡ crew_of (λ client. not (client == who) && is_in_conflict want (right_in client self)) }
+        ensures { result
+            ≡ crew_of
+            (λ client. not (client == who) && is_in_conflict want (right_in client self)) }
     {
         match self {
             Holders::Readers(crew) => match want {
@@ -65,10 +67,14 @@ impl Holders {
 
     /// The holders once a client has got a right. A writer that gets the right to read stays a writer.
     pub fn granted(self, who: Who, right: Right) -> Holders
-        requires free { crew_of (λ client. not (client == who) && is_in_conflict right (right_in client self)) ≡ [] }
+        requires free { crew_of
+            (λ client. not (client == who) && is_in_conflict right (right_in client self)) ≡ [] }
         requires client { IsClient who }
         requires clients { AreClients self }
-        ensures right { (client : ℕ) → IsClient client → right_in client result ≡ (if client == who then Some (raised (right_in client self) right) else right_in client self) }
+        ensures right { (client : ℕ) → IsClient client
+            → right_in client result
+            ≡ (if client == who then Some
+            (raised (right_in client self) right) else right_in client self) }
         ensures clients { AreClients result }
     {
         match self {
@@ -83,7 +89,8 @@ impl Holders {
     /// The holders without one client.
     pub fn released(self, who: Who) -> Holders
         requires { AreClients self }
-        ensures right { (client : ℕ) → IsClient client → right_in client result ≡ (if client == who then None else right_in client self) }
+        ensures right { (client : ℕ) → IsClient client
+            → right_in client result ≡ (if client == who then None else right_in client self) }
         ensures clients { AreClients result }
     {
         match self {
@@ -101,7 +108,9 @@ impl Holders {
     /// The holders once the writer keeps the page for reading alone.
     pub fn lowered(self, who: Who) -> Holders
         requires { writer_in self ≡ Some who }
-        ensures right { (client : ℕ) → IsClient client → right_in client result ≡ (if client == who then Some Right.Read else right_in client self) }
+        ensures right { (client : ℕ) → IsClient client
+            → right_in client result
+            ≡ (if client == who then Some Right.Read else right_in client self) }
         ensures clients { AreClients result }
     {
         let readers = Crew::none().with(who);

@@ -1,5 +1,5 @@
 use Rattle.std.proofs.Common.{ℕ, ◌≤◌, inl, inr, ⊎_elim, arith}
-use Rattle.casper_disk.specs.Disk.{Stands, Took}
+use Rattle.casper_disk.specs.Disk.{KeepsImages, Took}
 
 -- what takes no time adds nothing
 pub took_none : {Image : Type 0} (now : ℕ) (past : ℕ → Image → Type 0) (may_be : Image → Type 0)
@@ -12,7 +12,7 @@ took_none now past may_be is = record {
 }
 
 -- nor does a call that leaves the moment and what a stop since any moment might have left
-pub took_standing : {Image : Type 0} (before now : ℕ) (past since : ℕ → Image → Type 0) (may_be : Image → Type 0) → Stands before now past since
+pub took_standing : {Image : Type 0} (before now : ℕ) (past since : ℕ → Image → Type 0) (may_be : Image → Type 0) → KeepsImages before now past since
     → ((image : Image) → past before image → may_be image) → Took before now past since may_be
 took_standing before now past since may_be stands is = record {
   later = omega (arith, stands.moment);

@@ -8,7 +8,7 @@ use Rattle.std.proofs.lemmas.List.Elements.{Contains-append_left, Contains-push,
 use Rattle.std.proofs.Math.Seq.{drop-length}
 use Rattle.casper_space.specs.Changes.{Change, with_changes}
 use Rattle.casper_disk.specs.Disk.{Took}
-use Rattle.casper_disk.specs.Vault.{Saved, IsEither, changes_of, page_at, version_after}
+use Rattle.casper_disk.specs.Vault.{Saved, IsOldOrNewImage, as_changes, page_at, version_after}
 use Rattle.casper_disk.specs.MemVault.{HeldPages, words_in, is_held, whole, held_image, held_saved, saved_since}
 
 -- the first of these pages have frames
@@ -26,11 +26,11 @@ whole_same words long = ap (λ count. take count (words ++ replicate 512 0)) (sy
 
 -- whole pages, changed
 pub whole_changes : (pages : List (List ℕ)) (changes : List (ℕ × List ℕ)) → FilledFirst changes (length changes)
-    → map whole (with_changes pages (changes_of changes)) ≡ with_changes (map whole pages) (changes_of changes)
+    → map whole (with_changes pages (as_changes changes)) ≡ with_changes (map whole pages) (as_changes changes)
 whole_changes pages [] long = refl
 whole_changes pages (change ∷ changes) long =
     whole_changes (set pages change.0 change.1) changes (λ k d within. long (suc k) d (omega (arith, within)))
-    ∙ ap (λ image. with_changes image (changes_of changes))
+    ∙ ap (λ image. with_changes image (as_changes changes))
     (map-set whole pages change.0 change.1 ∙ ap (set (map whole pages) change.0) (whole_same change.1 (long 0 change (omega arith))))
 
 -- a place whose words stay
@@ -54,15 +54,15 @@ changed_page changes at page item is_page is = is_page ∙ ap (λ change. change
 -- one change more, made
 pub put_more : (frames : List (Option (List ℕ))) (image : List (List ℕ)) (changes : List (ℕ × List ℕ)) (at page : ℕ) (item : ℕ × List ℕ)
     (new : Option (List ℕ)) → at < length changes → item ≡ get_or changes at item → page ≡ item.0 → words_in new ≡ item.1
-    → with_changes (map words_in frames) (changes_of (drop at changes)) ≡ image
-    → with_changes (map words_in (set frames page new)) (changes_of (drop (at + 1) changes)) ≡ image
+    → with_changes (map words_in frames) (as_changes (drop at changes)) ≡ image
+    → with_changes (map words_in (set frames page new)) (as_changes (drop (at + 1) changes)) ≡ image
 put_more frames image changes at page item new within is is_page words before =
     let old = map words_in frames in
-    ap (λ pages. with_changes pages (changes_of (drop (at + 1) changes)))
+    ap (λ pages. with_changes pages (as_changes (drop (at + 1) changes)))
     (map-set words_in frames page new
     ∙ ap (λ (place : ℕ). set old place (words_in new)) (changed_page changes at page item is_page is)
     ∙ ap (set old (get_or changes at item).0) (words ∙ ap (λ change. change.1) is))
-    ∙ sym (ap (λ rest. with_changes old (changes_of rest)) (drop_more changes at item within)) ∙ before
+    ∙ sym (ap (λ rest. with_changes old (as_changes rest)) (drop_more changes at item within)) ∙ before
 
 -- frames stay where they are
 pub held_still : (frames : List (Option (List ℕ))) (changes : List (ℕ × List ℕ)) (count page : ℕ) (new : Option (List ℕ)) → page < length frames
@@ -118,28 +118,28 @@ page_read frames page found within is long =
     ∙ whole_same (words_in found) long
 
 -- the version rises where there is a change
-pub version_risen : (changes : List (ℕ × List ℕ)) (version : ℕ) → (length changes ≡ 0 → ⊥) → version_after (changes_of changes) version ≡ version + 1
+pub version_risen : (changes : List (ℕ × List ℕ)) (version : ℕ) → (length changes ≡ 0 → ⊥) → version_after (as_changes changes) version ≡ version + 1
 version_risen [] version some = absurd (some refl)
 version_risen (change ∷ changes) version some = refl
 
 -- the image after a commit
 pub image_after : (old held put : List (Option (List ℕ))) (changes : List (ℕ × List ℕ)) → map words_in held ≡ map words_in old
-    → map words_in put ≡ with_changes (map words_in held) (changes_of changes) → FilledFirst changes (length changes)
-    → map whole (map words_in put) ≡ with_changes (map whole (map words_in old)) (changes_of changes)
+    → map words_in put ≡ with_changes (map words_in held) (as_changes changes) → FilledFirst changes (length changes)
+    → map whole (map words_in put) ≡ with_changes (map whole (map words_in old)) (as_changes changes)
 image_after old held put changes same words long =
-    ap (map whole) (words ∙ ap (λ pages. with_changes pages (changes_of changes)) same) ∙ whole_changes (map words_in old) changes long
+    ap (map whole) (words ∙ ap (λ pages. with_changes pages (as_changes changes)) same) ∙ whole_changes (map words_in old) changes long
 
 -- what a stop leaves after a commit
 pub saved_after : (image after : List (List ℕ)) (changes : List Change) (version next later : ℕ) (saved : Saved)
-    → after ≡ with_changes image changes → later ≡ next → saved ≡ record { image = after; version = later } → IsEither image version changes next saved
+    → after ≡ with_changes image changes → later ≡ next → saved ≡ record { image = after; version = later } → IsOldOrNewImage image version changes next saved
 saved_after image after changes version next later saved image_is version_is is =
     inr (is ∙ ap (λ (pages : List (List ℕ)). record { image = pages; version = later }) image_is
     ∙ ap (λ (number : ℕ). record { image = with_changes image changes; version = number }) version_is)
 
 -- a commit of which the past keeps what was before it
 pub noted_adds : (old after : HeldPages) (changes : List Change) (next : ℕ) → after.past ≡ old.past ++ held_saved old ∷ []
-    → ((saved : Saved) → saved ≡ held_saved after → IsEither (held_image old) old.version changes next saved)
-    → Took (length old.past) (length after.past) (saved_since old) (saved_since after) (IsEither (held_image old) old.version changes next)
+    → ((saved : Saved) → saved ≡ held_saved after → IsOldOrNewImage (held_image old) old.version changes next saved)
+    → Took (length old.past) (length after.past) (saved_since old) (saved_since after) (IsOldOrNewImage (held_image old) old.version changes next)
 noted_adds old after changes next noted made = record {
   later = omega (arith, ap length noted, length_push old.past (held_saved old));
   only = λ moment saved early since. ⊎_elim

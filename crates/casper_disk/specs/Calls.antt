@@ -49,7 +49,7 @@ after_sync disk =
     then after_refusal kind.Sync disk
     else after_step kind.Sync (sync_step (fails_next disk.plan kind.Sync)) disk
 
--- a disk with a new record, which has room for as many calls, and behind the steps one for the writes that had no room
+-- a disk with a new record, which has room for as many calls, and after the steps one for the writes that had no room
 abbrev pub after_arm : List Fail → ℕ → Vec Bool Global → Held → Held
 after_arm fails calls missed disk = record {
   content = disk.content;

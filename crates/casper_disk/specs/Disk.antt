@@ -30,7 +30,7 @@ abbrev pub Elapses : ℕ → ℕ → (ℕ → List (List ℕ) → Type 0) → (�
 Elapses before now past since may_differ blocks = Took before now past since (AgreesBut may_differ blocks)
 
 -- a call leaves the moment and the images since any moment
-pub record Stands {Image : Type 0} (before now : ℕ) (past since : ℕ → Image → Type 0) : Type 0 where
+pub record KeepsImages {Image : Type 0} (before now : ℕ) (past since : ℕ → Image → Type 0) : Type 0 where
   pub moment : now ≡ before
   pub only : (moment : ℕ) (image : Image) → since moment image → past moment image
   pub keeps : (moment : ℕ) (image : Image) → past moment image → since moment image

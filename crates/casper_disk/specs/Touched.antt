@@ -16,7 +16,7 @@ abbrev pub touched : List Step → ℕ → Bool
 touched [] at = false
 touched (first ∷ steps) at = touches first at || touched steps at
 
--- the first 2,048 bytes of a block, and this byte in all places behind them
+-- the first 2,048 bytes of a block, and this byte in all places after them
 unfoldable pub torn_block : ℕ → List ℕ → List ℕ
 torn_block byte block = take 2048 block ++ replicate 2048 byte
 

@@ -6,8 +6,8 @@ abbrev pub page_at : List (List ℕ) → ℕ → List ℕ
 page_at image page = slice_index_or image page []
 
 -- pages with their new words, as changes
-abbrev pub changes_of : List (ℕ × List ℕ) → List Change
-changes_of pairs = map (λ pair. record { page = pair.0; words = pair.1 }) pairs
+abbrev pub as_changes : List (ℕ × List ℕ) → List Change
+as_changes pairs = map (λ pair. record { page = pair.0; words = pair.1 }) pairs
 
 -- the changes that are in doubt, if there are any
 abbrev pub changes_in : Option (List Change) → List Change
@@ -58,6 +58,6 @@ lacking (change ∷ changes) (Some room) =
     cond (nat_lt (free_of room) (need_of room pages)) (Some (record { need = need_of room pages; free = free_of room })) None
 
 -- what was saved is this image with its version, or the image with these changes and that next version
-abbrev pub IsEither : List (List ℕ) → ℕ → List Change → ℕ → Saved → Type 0
-IsEither image version changes next saved =
+abbrev pub IsOldOrNewImage : List (List ℕ) → ℕ → List Change → ℕ → Saved → Type 0
+IsOldOrNewImage image version changes next saved =
     saved ≡ record { image = image; version = version } ⊎ saved ≡ record { image = with_changes image changes; version = next }

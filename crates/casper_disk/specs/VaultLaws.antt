@@ -24,7 +24,7 @@ page_filled vault page within = ap length (get_or-map whole vault.pages page [] 
 pub never_in_doubt : {changes : List Change} → ◌≡◌ {A = Option (List Change)} None (Some changes) → ⊥
 never_in_doubt {changes} same = none-some changes same
 
--- what stands behind a place of a list stands behind an earlier one
+-- what stands after a place of a list stands after an earlier one
 pub behind_earlier : {X : Type 0} (items : List X) (item : X) (earlier later : ℕ) → earlier ≤ later → Contains (drop later items) item → Contains (drop earlier items) item
 behind_earlier items item earlier later order is =
     let more : earlier + (later - earlier) ≡ later = omega (arith, order) in

@@ -1,6 +1,6 @@
 ghost use Rattle.std.specs.Prelude.{◌≡◌, ◌==◌, ℕ, ◌<◌, ◌≤◌, Bool, false, List, length, slice_set, IsTrue, OnOk, OnErr};
-ghost use Rattle.casper_words.specs.Count.{Rose};
-ghost use Rattle.casper_disk.specs.Disk.{block_at, none_loose, with_loose, AgreesBut, Elapses, Stands};
+ghost use Rattle.casper_words.specs.Count.{FaultCountRose};
+ghost use Rattle.casper_disk.specs.Disk.{block_at, none_loose, with_loose, AgreesBut, Elapses, KeepsImages};
 
 use casper_words::Block;
 
@@ -56,8 +56,9 @@ pub trait Disk {
         ensures content { IsTrue tells → content self.new ≡ content self.old }
         ensures loose { IsTrue tells → loose self.new ≡ loose self.old }
         ensures images { IsTrue tells →
-            Stands (moment self.old) (moment self.new) (images_since self.old) (images_since self.new) }
-        ensures counted { OnErr result (Rose (faults self.old) (faults self.new)) }
+            KeepsImages (moment self.old) (moment self.new) (images_since self.old)
+            (images_since self.new) }
+        ensures counted { OnErr result (FaultCountRose (faults self.old) (faults self.new)) }
         ensures never_falls { faults self.old ≤ faults self.new }
         ensures leads { leads_to self.old self.new };
 
@@ -65,13 +66,16 @@ pub trait Disk {
     fn write(&mut self, at: u32, from: &Block) -> Result<(), DiskFault>
         requires { at < size self.old }
         ensures size { size self.new ≡ size self.old }
-        ensures written { IsTrue tells → OnOk result (content self.new ≡ slice_set (content self.old) at from.now) }
-        ensures others { IsTrue tells → AgreesBut (λ other. other == at) (content self.old) (content self.new) }
+        ensures written { IsTrue tells
+            → OnOk result (content self.new ≡ slice_set (content self.old) at from.now) }
+        ensures others { IsTrue tells
+            → AgreesBut (λ other. other == at) (content self.old) (content self.new) }
         ensures loose { IsTrue tells → loose self.new ≡ with_loose at (loose self.old) }
         ensures images { IsTrue tells →
-            Elapses (moment self.old) (moment self.new) (images_since self.old) (images_since self.new)
+            Elapses (moment self.old) (moment self.new) (images_since self.old)
+            (images_since self.new)
             (with_loose at (loose self.old)) (content self.old) }
-        ensures counted { OnErr result (Rose (faults self.old) (faults self.new)) }
+        ensures counted { OnErr result (FaultCountRose (faults self.old) (faults self.new)) }
         ensures never_falls { faults self.old ≤ faults self.new }
         ensures leads { leads_to self.old self.new };
 
@@ -82,9 +86,10 @@ pub trait Disk {
         ensures settled { IsTrue tells → OnOk result (loose self.new ≡ none_loose) }
         ensures unsettled { IsTrue tells → OnErr result (loose self.new ≡ loose self.old) }
         ensures images { IsTrue tells →
-            Elapses (moment self.old) (moment self.new) (images_since self.old) (images_since self.new)
+            Elapses (moment self.old) (moment self.new) (images_since self.old)
+            (images_since self.new)
             (loose self.old) (content self.old) }
-        ensures counted { OnErr result (Rose (faults self.old) (faults self.new)) }
+        ensures counted { OnErr result (FaultCountRose (faults self.old) (faults self.new)) }
         ensures never_falls { faults self.old ≤ faults self.new }
         ensures leads { leads_to self.old self.new };
 

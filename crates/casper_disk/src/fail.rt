@@ -22,6 +22,6 @@ pub enum Pick {
     Old,
     /// The bytes last written.
     New,
-    /// The first 2,048 of the bytes last written, and this byte in all places behind them.
+    /// The first 2,048 of the bytes last written, and this byte in all places after them.
     Torn(u8),
 }

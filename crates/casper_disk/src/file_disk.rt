@@ -1,5 +1,5 @@
 ghost use Rattle.std.specs.Prelude.{◌≡◌, ◌*◌, ◌≤◌, ℕ, Bool, false, List, [], ⊤, is_ok, IfOk, OnErr};
-ghost use Rattle.casper_words.specs.Count.{Rose};
+ghost use Rattle.casper_words.specs.Count.{FaultCountRose};
 ghost use Rattle.casper_disk.specs.Disk.{none_loose, untold};
 ghost use Rattle.casper_disk.specs.LeadsTo.{FiledLeadsTo, filed_itself, filed_on};
 
@@ -11,7 +11,7 @@ use std::marker::Model;
 use std::os::unix::fs::FileExt;
 
 /// A disk over a file of the system. It has as many blocks as the file had whole ones when it was opened. It tells
-/// nothing of them. A read or a write that the system cuts short goes on behind what was done, and one that a signal interrupts is
+/// nothing of them. A read or a write that the system cuts short goes on after what was done, and one that a signal interrupts is
 /// tried again. Contracts see the number of blocks and the count of the calls that failed.
 #[derive(Drop)]
 pub struct FileDisk<F = File> {
@@ -63,7 +63,7 @@ impl<F> FileDisk<F> {
     fn note(&mut self, answer: io::Result<()>) -> Result<(), DiskFault>
         ensures same { is_ok result ≡ is_ok answer }
         ensures size { self.new.size ≡ self.old.size }
-        ensures counted { OnErr result (Rose self.old.faults self.new.faults) }
+        ensures counted { OnErr result (FaultCountRose self.old.faults self.new.faults) }
         ensures never_falls { self.old.faults ≤ self.new.faults }
     {
         match answer {

@@ -1,5 +1,5 @@
 ghost use Rattle.std.specs.Prelude.{◌≡◌, ◌≤◌, ℕ, Bool, false, IfOk};
-ghost use Rattle.casper_words.specs.Count.{Rose};
+ghost use Rattle.casper_words.specs.Count.{FaultCountRose};
 ghost use Rattle.casper_disk.specs.Disk.{untold};
 ghost use Rattle.casper_disk.specs.Place.{Missing};
 
@@ -83,7 +83,7 @@ impl<R: Files<File = File>> FileShelf<R> {
     /// Counts a fault, and gives its answer.
     fn fault(&mut self) -> ShelfFault
         ensures failed { result ≡ ShelfFault.Failed }
-        ensures counted { Rose self.old self.new }
+        ensures counted { FaultCountRose self.old self.new }
         ensures never_falls { self.old ≤ self.new }
     {
         self.faults = self.faults.saturating_add(1);
@@ -110,7 +110,7 @@ impl<R: Files<File = File>> Shelf for FileShelf<R> {
         }
     }
 
-    /// Writes the zeros, so that a full device is met here. A file whose making fails behind its creation is removed again. Where
+    /// Writes the zeros, so that a full device is met here. A file whose making fails after its creation is removed again. Where
     /// that fails too, the name stays, and this counts as a second fault.
     fn make(&mut self, _alloc: Global, name: &[u8], blocks: u32) -> Result<FileDisk, ShelfFault> {
         let Ok(path) = path_of(name) else {

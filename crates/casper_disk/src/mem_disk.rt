@@ -1,8 +1,8 @@
 ghost use Rattle.std.specs.Prelude.{◌≡◌, ◌||◌, ◌==◌, ◌+◌, ◌-◌, ◌<◌, ◌≤◌, ◌^◌, ℕ, Bool, true, false, List, length, replicate, slice_set, is_err, IfOk, OnOk, OnErr};
 ghost use Rattle.std.proofs.Common.{inl, refl};
-ghost use Rattle.casper_words.specs.Count.{Rose};
+ghost use Rattle.casper_words.specs.Count.{FaultCountRose};
 ghost use Rattle.casper_disk.specs.declared.fail.Kind.TheVariants as kind;
-ghost use Rattle.casper_disk.specs.Disk.{block_at, none_loose, with_loose, AgreesBut, Elapses, Stands};
+ghost use Rattle.casper_disk.specs.Disk.{block_at, none_loose, with_loose, AgreesBut, Elapses, KeepsImages};
 ghost use Rattle.casper_disk.specs.Record.{only_left_now, since_earlier, agrees_itself, content_at};
 ghost use Rattle.casper_disk.specs.Stopped.{settled_before, stop_moment, began, loose_within};
 ghost use Rattle.casper_disk.specs.Plan.{count_of, fails_next};
@@ -78,7 +78,8 @@ fn disk_of(alloc: Global, blocks: Vec<Block>, calls: usize) -> Result<MemDisk, M
 impl MemDisk {
     /// A disk of as many zero blocks, none of them loose, with room for `calls` writes and syncs.
     pub fn new(alloc: Global, blocks: u32, calls: u32) -> Result<MemDisk, Memory>
-        ensures fresh { IfOk result (λ disk. disk ≡ fresh_disk (replicate blocks (replicate 4096 0)) calls) }
+        ensures fresh { IfOk result (λ disk. disk
+            ≡ fresh_disk (replicate blocks (replicate 4096 0)) calls) }
         ensures loose { IfOk result (λ disk. held_loose disk ≡ none_loose) }
     {
         let contents = zero_blocks(alloc, blocks as usize)?;
@@ -92,7 +93,8 @@ impl MemDisk {
         ensures loose { held_loose self.new ≡ held_loose self.old }
         ensures after { OnOk result (IsArmed fails.now calls self.old self.new) }
         ensures record { OnOk result (KeepsRecord self.old self.new) }
-        ensures images { OnOk result (Elapses (length self.old.steps) (length self.new.steps) (held_since self.old)
+        ensures images { OnOk result
+            (Elapses (length self.old.steps) (length self.new.steps) (held_since self.old)
             (held_since self.new) (held_loose self.old) self.old.content) }
         ensures err { OnErr result (self.new ≡ self.old) }
     {
@@ -113,13 +115,19 @@ impl MemDisk {
     pub fn stopped(&self, alloc: Global, call: u64, pick: Pick) -> Result<MemDisk, Memory>
         requires some { 1 ≤ call }
         requires within { call ≤ self.now.plan.writes + self.now.plan.syncs + 1 }
-        ensures written { pick ≡ Pick.New → IfOk result (λ disk. disk.content ≡ content_at self.now.steps self.now.content (stop_moment self.now call)) }
+        ensures written { pick ≡ Pick.New
+            → IfOk result (λ disk. disk.content
+            ≡ content_at self.now.steps self.now.content (stop_moment self.now call)) }
         ensures before { pick ≡ Pick.Old → IfOk result (λ disk. disk.content
-            ≡ content_at self.now.steps self.now.content (settled_before self.now.steps (stop_moment self.now call))) }
-        ensures torn { (byte : ℕ) → pick ≡ Pick.Torn byte → IfOk result (λ disk. AreTorn (loose_within self.now call) byte
+            ≡ content_at self.now.steps self.now.content
+            (settled_before self.now.steps (stop_moment self.now call))) }
+        ensures torn { (byte : ℕ) → pick ≡ Pick.Torn byte
+            → IfOk result (λ disk. AreTorn (loose_within self.now call) byte
             (content_at self.now.steps self.now.content (stop_moment self.now call)) disk.content) }
-        ensures image { IfOk result (λ disk. held_since self.now (began self.now call) disk.content) }
-        ensures fresh { IfOk result (λ disk. disk ≡ fresh_disk disk.content (length self.now.steps - self.now.armed + self.now.room)) }
+        ensures image { IfOk result
+            (λ disk. held_since self.now (began self.now call) disk.content) }
+        ensures fresh { IfOk result (λ disk. disk
+            ≡ fresh_disk disk.content (length self.now.steps - self.now.armed + self.now.room)) }
         ensures loose { IfOk result (λ disk. held_loose disk ≡ none_loose) }
     {
         let mut blocks = copies(alloc, self.blocks.as_slice())?;
@@ -132,11 +140,16 @@ impl MemDisk {
     fn apply_stop(&self, call: u64, pick: Pick, blocks: &mut Vec<Block>)
         requires some { 1 ≤ call }
         requires content { blocks.old.items ≡ self.now.content }
-        ensures written { pick ≡ Pick.New → blocks.new.items ≡ content_at self.now.steps self.now.content (stop_moment self.now call) }
+        ensures written { pick ≡ Pick.New
+            → blocks.new.items
+            ≡ content_at self.now.steps self.now.content (stop_moment self.now call) }
         ensures before { pick ≡ Pick.Old → blocks.new.items
-            ≡ content_at self.now.steps self.now.content (settled_before self.now.steps (stop_moment self.now call)) }
-        ensures torn { (byte : ℕ) → pick ≡ Pick.Torn byte → AreTorn (loose_within self.now call) byte
-            (content_at self.now.steps self.now.content (stop_moment self.now call)) blocks.new.items }
+            ≡ content_at self.now.steps self.now.content
+            (settled_before self.now.steps (stop_moment self.now call)) }
+        ensures torn { (byte : ℕ) → pick ≡ Pick.Torn byte
+            → AreTorn (loose_within self.now call) byte
+            (content_at self.now.steps self.now.content
+            (stop_moment self.now call)) blocks.new.items }
         ensures image { held_since self.now (began self.now call) blocks.new.items }
         ensures count { length blocks.new.items ≡ length blocks.old.items }
     {
@@ -225,8 +238,9 @@ impl Disk for MemDisk {
         ensures size { length self.new.content ≡ length self.old.content }
         ensures content { self.new.content ≡ self.old.content }
         ensures loose { held_loose self.new ≡ held_loose self.old }
-        ensures images { Stands (length self.old.steps) (length self.new.steps) (held_since self.old) (held_since self.new) }
-        ensures counted { OnErr result (Rose self.old.plan.faults self.new.plan.faults) }
+        ensures images { KeepsImages (length self.old.steps) (length self.new.steps)
+            (held_since self.old) (held_since self.new) }
+        ensures counted { OnErr result (FaultCountRose self.old.plan.faults self.new.plan.faults) }
         ensures never_falls { self.old.plan.faults ≤ self.new.plan.faults }
         ensures leads { HeldLeadsTo self.old self.new }
     {
@@ -243,16 +257,18 @@ impl Disk for MemDisk {
     /// it answers.
     fn write(&mut self, at: u32, from: &Block) -> Result<(), DiskFault>
         requires { at < length self.old.content }
-        ensures fails { is_err result ≡ (fails_next self.old.plan kind.Write || self.old.room == 0) }
+        ensures fails { is_err result
+            ≡ (fails_next self.old.plan kind.Write || self.old.room == 0) }
         ensures after { self.new ≡ after_write at from.now self.old }
         ensures record { KeepsRecord self.old self.new }
         ensures size { length self.new.content ≡ length self.old.content }
         ensures written { OnOk result (self.new.content ≡ slice_set self.old.content at from.now) }
         ensures others { AgreesBut (λ other. other == at) self.old.content self.new.content }
         ensures loose { held_loose self.new ≡ with_loose at (held_loose self.old) }
-        ensures images { Elapses (length self.old.steps) (length self.new.steps) (held_since self.old) (held_since self.new)
+        ensures images { Elapses (length self.old.steps) (length self.new.steps)
+            (held_since self.old) (held_since self.new)
             (with_loose at (held_loose self.old)) self.old.content }
-        ensures counted { OnErr result (Rose self.old.plan.faults self.new.plan.faults) }
+        ensures counted { OnErr result (FaultCountRose self.old.plan.faults self.new.plan.faults) }
         ensures never_falls { self.old.plan.faults ≤ self.new.plan.faults }
         ensures leads { HeldLeadsTo self.old self.new }
     {
@@ -278,9 +294,10 @@ impl Disk for MemDisk {
         ensures content { self.new.content ≡ self.old.content }
         ensures settled { OnOk result (held_loose self.new ≡ none_loose) }
         ensures unsettled { OnErr result (held_loose self.new ≡ held_loose self.old) }
-        ensures images { Elapses (length self.old.steps) (length self.new.steps) (held_since self.old) (held_since self.new)
+        ensures images { Elapses (length self.old.steps) (length self.new.steps)
+            (held_since self.old) (held_since self.new)
             (held_loose self.old) self.old.content }
-        ensures counted { OnErr result (Rose self.old.plan.faults self.new.plan.faults) }
+        ensures counted { OnErr result (FaultCountRose self.old.plan.faults self.new.plan.faults) }
         ensures never_falls { self.old.plan.faults ≤ self.new.plan.faults }
         ensures leads { HeldLeadsTo self.old self.new }
     {

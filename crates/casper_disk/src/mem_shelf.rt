@@ -1,6 +1,6 @@
 ghost use Rattle.std.specs.Prelude.{◌≡◌, ◌≢◌, ◌↔◌, ℕ, ◌≤◌, List, [], true, replicate, IsTrue, IsFalse, IsErrOf, IfOk, OnOk, OnErr};
 ghost use Rattle.std.proofs.Common.{refl};
-ghost use Rattle.casper_words.specs.Count.{Rose};
+ghost use Rattle.casper_words.specs.Count.{FaultCountRose};
 ghost use Rattle.casper_disk.specs.Disk.{none_loose};
 ghost use Rattle.casper_disk.specs.Handed.{faults_since, faults_with};
 ghost use Rattle.casper_disk.specs.MemDisk.{held_loose, fresh_disk};
@@ -42,7 +42,8 @@ impl Model for MemShelf {
 impl MemShelf {
     /// A shelf with no name. Each disk that it makes has room for `calls` writes and syncs.
     pub fn new(alloc: Global, calls: u32, fails: &[u64]) -> Result<MemShelf, Memory>
-        ensures { IfOk result (λ shelf. shelf ≡ record { slots = []; calls = calls; fails = fails.now; asked = 0; faults = 0 }) }
+        ensures { IfOk result (λ shelf. shelf
+            ≡ record { slots = []; calls = calls; fails = fails.now; asked = 0; faults = 0 }) }
     {
         let fails = Vec::from_slice(alloc, fails)?;
         Ok(MemShelf {
@@ -68,19 +69,28 @@ impl Shelf for MemShelf {
 
     /// Fails exactly where a disk stands under the name and this call is one of those that are to fail.
     fn open(&mut self, _alloc: Global, name: &[u8]) -> Result<MemDisk, ShelfFault>
-        ensures nosuch { IsErrOf result ShelfFault.NoSuch ↔ IsFalse (is_standing (place_in self.old.slots name.now)) }
+        ensures nosuch { IsErrOf result ShelfFault.NoSuch
+            ↔ IsFalse (is_standing (place_in self.old.slots name.now)) }
         ensures failed { IsErrOf result ShelfFault.Failed ↔ IsTrue (fails_open self.old name.now) }
         ensures stood { IfOk result (λ disk. place_in self.old.slots name.now ≡ Standing disk) }
         ensures out { OnOk result (place_in self.new.slots name.now ≡ Out) }
-        ensures others { (other : List ℕ) → other ≢ name.now → place_in self.new.slots other ≡ place_in self.old.slots other }
-        ensures kept { OnErr result (place_in self.new.slots name.now ≡ place_in self.old.slots name.now) }
-        ensures handed { IfOk result (λ disk. handed_in self.new.slots name.now ≡ disk.plan.faults) }
-        ensures handed_before { OnErr result (handed_in self.new.slots name.now ≡ handed_in self.old.slots name.now) }
-        ensures others_handed { (other : List ℕ) → other ≢ name.now → handed_in self.new.slots other ≡ handed_in self.old.slots other }
-        ensures after { self.new ≡ record (after_ask (fails_open self.old name.now) self.old) { slots = self.new.slots } }
+        ensures others { (other : List ℕ) → other ≢ name.now
+            → place_in self.new.slots other ≡ place_in self.old.slots other }
+        ensures kept { OnErr result (place_in self.new.slots name.now
+            ≡ place_in self.old.slots name.now) }
+        ensures handed { IfOk result (λ disk. handed_in self.new.slots name.now
+            ≡ disk.plan.faults) }
+        ensures handed_before { OnErr result (handed_in self.new.slots name.now
+            ≡ handed_in self.old.slots name.now) }
+        ensures others_handed { (other : List ℕ) → other ≢ name.now
+            → handed_in self.new.slots other ≡ handed_in self.old.slots other }
+        ensures after { self.new
+            ≡ record
+            (after_ask (fails_open self.old name.now) self.old) { slots = self.new.slots } }
         ensures new_alone { IsErrOf result ShelfFault.Exists → ⊥ }
         ensures no_memory { IsErrOf result ShelfFault.Memory → ⊥ }
-        ensures counted { IsErrOf result ShelfFault.Failed → Rose self.old.faults self.new.faults }
+        ensures counted { IsErrOf result ShelfFault.Failed
+            → FaultCountRose self.old.faults self.new.faults }
         ensures never_falls { self.old.faults ≤ self.new.faults }
     {
         self.asked = self.asked.saturating_add(1);
@@ -96,20 +106,30 @@ impl Shelf for MemShelf {
 
     /// Fails exactly where the name is not there and this call is one of those that are to fail.
     fn make(&mut self, alloc: Global, name: &[u8], blocks: u32) -> Result<MemDisk, ShelfFault>
-        ensures exists { IsErrOf result ShelfFault.Exists ↔ IsTrue (is_there (place_in self.old.slots name.now)) }
+        ensures exists { IsErrOf result ShelfFault.Exists
+            ↔ IsTrue (is_there (place_in self.old.slots name.now)) }
         ensures failed { IsErrOf result ShelfFault.Failed ↔ IsTrue (fails_make self.old name.now) }
-        ensures made { IfOk result (λ disk. disk ≡ fresh_disk (replicate blocks (replicate 4096 0)) self.old.calls) }
+        ensures made { IfOk result (λ disk. disk
+            ≡ fresh_disk (replicate blocks (replicate 4096 0)) self.old.calls) }
         ensures zero { IfOk result (λ disk. disk.content ≡ replicate blocks (replicate 4096 0)) }
         ensures settled { IfOk result (λ disk. held_loose disk ≡ none_loose) }
         ensures out { OnOk result (place_in self.new.slots name.now ≡ Out) }
-        ensures others { (other : List ℕ) → other ≢ name.now → place_in self.new.slots other ≡ place_in self.old.slots other }
-        ensures kept { OnErr result (place_in self.new.slots name.now ≡ place_in self.old.slots name.now) }
-        ensures handed { IfOk result (λ disk. handed_in self.new.slots name.now ≡ disk.plan.faults) }
-        ensures handed_before { OnErr result (handed_in self.new.slots name.now ≡ handed_in self.old.slots name.now) }
-        ensures others_handed { (other : List ℕ) → other ≢ name.now → handed_in self.new.slots other ≡ handed_in self.old.slots other }
-        ensures after { self.new ≡ record (after_ask (fails_make self.old name.now) self.old) { slots = self.new.slots } }
+        ensures others { (other : List ℕ) → other ≢ name.now
+            → place_in self.new.slots other ≡ place_in self.old.slots other }
+        ensures kept { OnErr result (place_in self.new.slots name.now
+            ≡ place_in self.old.slots name.now) }
+        ensures handed { IfOk result (λ disk. handed_in self.new.slots name.now
+            ≡ disk.plan.faults) }
+        ensures handed_before { OnErr result (handed_in self.new.slots name.now
+            ≡ handed_in self.old.slots name.now) }
+        ensures others_handed { (other : List ℕ) → other ≢ name.now
+            → handed_in self.new.slots other ≡ handed_in self.old.slots other }
+        ensures after { self.new
+            ≡ record
+            (after_ask (fails_make self.old name.now) self.old) { slots = self.new.slots } }
         ensures old_alone { IsErrOf result ShelfFault.NoSuch → ⊥ }
-        ensures counted { IsErrOf result ShelfFault.Failed → Rose self.old.faults self.new.faults }
+        ensures counted { IsErrOf result ShelfFault.Failed
+            → FaultCountRose self.old.faults self.new.faults }
         ensures never_falls { self.old.faults ≤ self.new.faults }
     {
         self.asked = self.asked.saturating_add(1);
@@ -128,11 +148,17 @@ impl Shelf for MemShelf {
     fn close(&mut self, name: &[u8], disk: MemDisk)
         requires { place_in self.old.slots name.now ≡ Out }
         ensures stands { place_in self.new.slots name.now ≡ Standing disk }
-        ensures others { (other : List ℕ) → other ≢ name.now → place_in self.new.slots other ≡ place_in self.old.slots other }
-        ensures others_handed { (other : List ℕ) → other ≢ name.now → handed_in self.new.slots other ≡ handed_in self.old.slots other }
-        ensures after { self.new ≡ record self.old { slots = self.new.slots; faults = self.new.faults } }
-        ensures faults { self.new.faults ≡ faults_with self.old.faults (faults_since (handed_in self.old.slots name.now) disk.plan.faults) }
-        ensures counted { Rose (handed_in self.old.slots name.now) disk.plan.faults → Rose self.old.faults self.new.faults }
+        ensures others { (other : List ℕ) → other ≢ name.now
+            → place_in self.new.slots other ≡ place_in self.old.slots other }
+        ensures others_handed { (other : List ℕ) → other ≢ name.now
+            → handed_in self.new.slots other ≡ handed_in self.old.slots other }
+        ensures after { self.new
+            ≡ record self.old { slots = self.new.slots; faults = self.new.faults } }
+        ensures faults { self.new.faults
+            ≡ faults_with self.old.faults
+            (faults_since (handed_in self.old.slots name.now) disk.plan.faults) }
+        ensures counted { FaultCountRose (handed_in self.old.slots name.now) disk.plan.faults
+            → FaultCountRose self.old.faults self.new.faults }
         ensures never_falls { self.old.faults ≤ self.new.faults }
     {
         let faults = faults_since(self.slots.handed(name), disk.faults());

@@ -1,7 +1,7 @@
 ghost use Rattle.std.specs.Prelude.{◌≡◌, ℕ, [], ◌^◌, ◌<◌, Bool, true, List, All, None, length, map, is_some, replicate, IfOk, OnOk, refl};
 ghost use Rattle.std.proofs.Common.{inl};
 ghost use Rattle.casper_space.specs.Changes.{with_changes};
-ghost use Rattle.casper_disk.specs.Vault.{Saved, changes_of};
+ghost use Rattle.casper_disk.specs.Vault.{Saved, as_changes};
 ghost use Rattle.casper_disk.specs.MemVault.{words_in, is_held, held_image, held_saved, saved_since};
 ghost use Rattle.casper_disk.specs.LeadsTo.{PagesLeadTo, pages_themselves, pages_on};
 ghost use Rattle.casper_disk.specs.VaultLaws.{image_count, page_filled, never_in_doubt, only_saved_now, since_earlier};
@@ -54,7 +54,8 @@ fn hold_all(
     requires { All (λ change. change.0 < length frames.old.items) changes.now }
     ensures same { map words_in frames.new.items ≡ map words_in frames.old.items }
     ensures count { length frames.new.items ≡ length frames.old.items }
-    ensures held { OnOk result (All (λ change. is_held frames.new.items change.0 ≡ true) changes.now) }
+    ensures held { OnOk result (All (λ change. is_held frames.new.items change.0
+        ≡ true) changes.now) }
 {
     for (page, _frame) in changes {
         hold(alloc, &mut frames[page.0 as usize])?;
@@ -78,7 +79,8 @@ fn put(place: &mut Option<Frame>, frame: &Frame)
 fn put_all(frames: &mut Vec<Option<Frame>>, changes: &[(Page, Frame)])
     requires within { All (λ change. change.0 < length frames.old.items) changes.now }
     requires held { All (λ change. is_held frames.old.items change.0 ≡ true) changes.now }
-    ensures words { map words_in frames.new.items ≡ with_changes (map words_in frames.old.items) (changes_of changes.now) }
+    ensures words { map words_in frames.new.items
+        ≡ with_changes (map words_in frames.old.items) (as_changes changes.now) }
     ensures count { length frames.new.items ≡ length frames.old.items }
     ensures long { All (λ change. length change.1 ≡ 512) changes.now }
 {
@@ -90,7 +92,8 @@ fn put_all(frames: &mut Vec<Option<Frame>>, changes: &[(Page, Frame)])
 impl MemVault {
     /// A vault of as many zero pages, of version 1.
     pub fn new(alloc: Global, pages: u32) -> Result<MemVault, Memory>
-        ensures image { IfOk result (λ vault. held_image vault ≡ replicate pages (replicate 512 0)) }
+        ensures image { IfOk result (λ vault. held_image vault
+            ≡ replicate pages (replicate 512 0)) }
         ensures version { IfOk result (λ vault. vault.version ≡ 1) }
         ensures size { IfOk result (λ vault. length vault.pages ≡ pages) }
         ensures past { IfOk result (λ vault. vault.past ≡ []) }

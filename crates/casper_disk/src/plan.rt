@@ -1,5 +1,5 @@
 ghost use Rattle.std.specs.Prelude.{◌≡◌, ◌≤◌, is_err, OnOk, OnErr};
-ghost use Rattle.casper_words.specs.Count.{Rose};
+ghost use Rattle.casper_words.specs.Count.{FaultCountRose};
 ghost use Rattle.casper_disk.specs.Plan.{count_of, counted, with_fault, fails_next, armed_with, unplanned};
 
 use crate::{DiskFault, Fail, Kind};
@@ -101,7 +101,7 @@ impl Plan {
     /// Counts a fault, and gives its answer.
     pub(crate) fn fault(&mut self) -> DiskFault
         ensures after { self.new ≡ with_fault self.old }
-        ensures counted { Rose self.old.faults self.new.faults }
+        ensures counted { FaultCountRose self.old.faults self.new.faults }
         ensures never_falls { self.old.faults ≤ self.new.faults }
         ensures same_fails { self.new.fails ≡ self.old.fails }
     {
@@ -114,7 +114,7 @@ impl Plan {
         ensures fails { is_err result ≡ fails }
         ensures ok { OnOk result (self.new ≡ self.old) }
         ensures err { OnErr result (self.new ≡ with_fault self.old) }
-        ensures counted { OnErr result (Rose self.old.faults self.new.faults) }
+        ensures counted { OnErr result (FaultCountRose self.old.faults self.new.faults) }
         ensures never_falls { self.old.faults ≤ self.new.faults }
         ensures same_fails { self.new.fails ≡ self.old.fails }
     {

@@ -69,7 +69,8 @@ impl Slot {
 
     /// Puts a disk in.
     pub(crate) fn put(&mut self, disk: MemDisk)
-        ensures { self.new ≡ record { name = self.old.name; disk = Some disk; handed = self.old.handed } }
+        ensures { self.new
+            ≡ record { name = self.old.name; disk = Some disk; handed = self.old.handed } }
     {
         self.disk = Some(disk);
     }

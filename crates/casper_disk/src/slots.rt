@@ -27,8 +27,10 @@ impl Model for Slots {
 fn find(slots: &Vec<Slot>, name: &[u8]) -> Option<usize>
     ensures within { IfSome result (λ at. at < length slots.now.items) }
     ensures named { IfSome result (λ at. is_named_at slots.now.items name.now at ≡ true) }
-    ensures first { IfSome result (λ at. (before : ℕ) → before < at → is_named_at slots.now.items name.now before ≡ false) }
-    ensures none { IfNone result ((at : ℕ) → at < length slots.now.items → is_named_at slots.now.items name.now at ≡ false) }
+    ensures first { IfSome result (λ at. (before : ℕ) → before < at
+        → is_named_at slots.now.items name.now before ≡ false) }
+    ensures none { IfNone result ((at : ℕ) → at < length slots.now.items
+        → is_named_at slots.now.items name.now at ≡ false) }
 {
     for (at, slot) in slots.iter().enumerate() {
         if slot.is_named(name) {
@@ -89,9 +91,11 @@ impl Slots {
         ensures stood { IfSome result (λ disk. place_in self.old name.now ≡ Standing disk) }
         ensures none { IfNone result (IsFalse (is_standing (place_in self.old name.now))) }
         ensures out { OnSome result (place_in self.new name.now ≡ Out) }
-        ensures others { (other : List ℕ) → other ≢ name.now → place_in self.new other ≡ place_in self.old other }
+        ensures others { (other : List ℕ) → other ≢ name.now
+            → place_in self.new other ≡ place_in self.old other }
         ensures handed { IfSome result (λ disk. handed_in self.new name.now ≡ disk.plan.faults) }
-        ensures others_handed { (other : List ℕ) → other ≢ name.now → handed_in self.new other ≡ handed_in self.old other }
+        ensures others_handed { (other : List ℕ) → other ≢ name.now
+            → handed_in self.new other ≡ handed_in self.old other }
     {
         match find(&self.slots, name) {
             Some(at) => {
@@ -106,7 +110,8 @@ impl Slots {
     pub(crate) fn put(&mut self, name: &[u8], disk: MemDisk)
         requires { place_in self.old name.now ≡ Out }
         ensures stands { place_in self.new name.now ≡ Standing disk }
-        ensures others { (other : List ℕ) → other ≢ name.now → place_in self.new other ≡ place_in self.old other }
+        ensures others { (other : List ℕ) → other ≢ name.now
+            → place_in self.new other ≡ place_in self.old other }
         ensures handed { (other : List ℕ) → handed_in self.new other ≡ handed_in self.old other }
     {
         if let Some(at) = find(&self.slots, name) {
@@ -119,9 +124,11 @@ impl Slots {
     pub(crate) fn add(&mut self, alloc: Global, name: &[u8]) -> Result<(), Memory>
         requires { place_in self.old name.now ≡ Missing }
         ensures out { OnOk result (place_in self.new name.now ≡ Out) }
-        ensures others { (other : List ℕ) → other ≢ name.now → place_in self.new other ≡ place_in self.old other }
+        ensures others { (other : List ℕ) → other ≢ name.now
+            → place_in self.new other ≡ place_in self.old other }
         ensures handed { OnOk result (handed_in self.new name.now ≡ 0) }
-        ensures others_handed { (other : List ℕ) → other ≢ name.now → handed_in self.new other ≡ handed_in self.old other }
+        ensures others_handed { (other : List ℕ) → other ≢ name.now
+            → handed_in self.new other ≡ handed_in self.old other }
         ensures err { OnErr result (self.new ≡ self.old) }
     {
         let slot = Slot::out(alloc, name)?;

@@ -5,7 +5,7 @@ ghost use Rattle.casper_disk.specs.Touched.{touches, touched, torn_block, AreTor
 use crate::step::Step;
 use casper_words::Block;
 
-/// Leaves the first 2,048 bytes of a block, and this byte in all places behind them.
+/// Leaves the first 2,048 bytes of a block, and this byte in all places after them.
 fn tear(byte: u8, block: &mut Block)
     ensures bytes { block.new ≡ torn_block byte block.old }
     ensures long { length block.old ≡ 4096 }

@@ -22,7 +22,7 @@ fn undo_one(step: &Step, blocks: &mut Vec<Block>)
     }
 }
 
-/// Takes the steps behind the first ones back.
+/// Takes the steps after the first ones back.
 pub(crate) fn undo(steps: &Vec<Step>, moment: usize, blocks: &mut Vec<Block>)
     requires { moment ≤ length steps.now.items }
     ensures before { blocks.new.items ≡ content_at steps.now.items blocks.old.items moment }

@@ -1,10 +1,10 @@
 ghost use Rattle.std.specs.Prelude.{◌≡◌, ◌⊎◌, ◌↔◌, ℕ, ◌+◌, ◌<◌, ◌≤◌, Bool, List, All, Option, None, Some, length, is_some, IsTrue, IsFalse, IsSome, IsErrOf, IsOkUnless, IfOk, IfErr, OnOk, OnErr};
 ghost use Rattle.std.specs.List.Sorted.{IsStrictlyIncreasing};
-ghost use Rattle.casper_words.specs.Count.{Rose};
+ghost use Rattle.casper_words.specs.Count.{FaultCountRose};
 ghost use Rattle.casper_space.specs.Changes.{Change, VaultRoom, pages_of, with_changes};
-ghost use Rattle.casper_disk.specs.Disk.{Stands, Took};
+ghost use Rattle.casper_disk.specs.Disk.{KeepsImages, Took};
 ghost use Rattle.casper_disk.specs.CommitFaults.{is_of_disk};
-ghost use Rattle.casper_disk.specs.Vault.{Saved, IsEither, page_at, changes_of, changes_in, version_after, room_with, version_settled, room_settled, is_worn, lacking};
+ghost use Rattle.casper_disk.specs.Vault.{Saved, IsOldOrNewImage, page_at, as_changes, changes_in, version_after, room_with, version_settled, room_settled, is_worn, lacking};
 
 use crate::DiskFault;
 use casper_words::{Frame, Memory, Page};
@@ -103,8 +103,9 @@ pub trait Vault {
         ensures room { room self.new ≡ room self.old }
         ensures doubt { IsTrue tells → doubt self.new ≡ doubt self.old }
         ensures images { IsTrue tells →
-            Took (moment self.old) (moment self.new) (images_since self.old) (images_since self.new) (images_now self.old) }
-        ensures counted { OnErr result (Rose (faults self.old) (faults self.new)) }
+            Took (moment self.old) (moment self.new) (images_since self.old) (images_since self.new)
+            (images_now self.old) }
+        ensures counted { OnErr result (FaultCountRose (faults self.old) (faults self.new)) }
         ensures never_falls { faults self.old ≤ faults self.new }
         ensures leads { leads_to self.old self.new };
 
@@ -112,45 +113,60 @@ pub trait Vault {
     /// a change. The memory is taken before anything is written, then the version and the room are looked at, then the disk is
     /// used. Without a change the answer is Ok, or Memory.
     fn commit(&mut self, alloc: Global, changes: &[(Page, Frame)]) -> Result<u64, CommitFault>
-        requires rising { IsStrictlyIncreasing (pages_of (changes_of changes.now)) }
+        requires rising { IsStrictlyIncreasing (pages_of (as_changes changes.now)) }
         requires within { All (λ change. change.0 < size self.old) changes.now }
         requires sure { doubt self.old ≡ None }
         ensures answer { IfOk result (λ number. number ≡ version self.new) }
-        ensures version { OnOk result (version self.new ≡ version_after (changes_of changes.now) (version self.old)) }
-        ensures image { IsTrue tells → OnOk result (image self.new ≡ with_changes (image self.old) (changes_of changes.now)) }
-        ensures room { OnOk result (room self.new ≡ room_with (changes_of changes.now) (room self.old)) }
+        ensures version { OnOk result (version self.new
+            ≡ version_after (as_changes changes.now) (version self.old)) }
+        ensures image { IsTrue tells
+            → OnOk result (image self.new
+            ≡ with_changes (image self.old) (as_changes changes.now)) }
+        ensures room { OnOk result (room self.new
+            ≡ room_with (as_changes changes.now) (room self.old)) }
         ensures doubtful { IsErrOf result CommitFault.Doubt ↔ IsSome (doubt self.new) }
-        ensures doubt { IsTrue tells → IsErrOf result CommitFault.Doubt → doubt self.new ≡ Some (changes_of changes.now) }
+        ensures doubt { IsTrue tells → IsErrOf result CommitFault.Doubt
+            → doubt self.new ≡ Some (as_changes changes.now) }
         ensures same_version { OnErr result (version self.new ≡ version self.old) }
         ensures same_image { IsTrue tells → OnErr result (image self.new ≡ image self.old) }
         ensures same_room { OnErr result (room self.new ≡ room self.old) }
         ensures size { size self.new ≡ size self.old }
         ensures worn { IsErrOf result CommitFault.Memory
-            ⊎ (IsErrOf result CommitFault.Worn ↔ IsTrue (is_worn (changes_of changes.now) (version self.old))) }
+            ⊎ (IsErrOf result CommitFault.Worn
+            ↔ IsTrue (is_worn (as_changes changes.now) (version self.old))) }
         ensures full { IsErrOf result CommitFault.Memory ⊎ IsErrOf result CommitFault.Worn
             ⊎ ((need free : ℕ) → IsErrOf result (CommitFault.Full need free)
-            ↔ (lacking (changes_of changes.now) (room self.old) ≡ Some (record { need = need; free = free }))) }
+            ↔ (lacking (as_changes changes.now) (room self.old)
+            ≡ Some (record { need = need; free = free }))) }
         ensures unchanged { length changes.now ≡ 0 → IsOkUnless result CommitFault.Memory }
-        ensures disk { IsErrOf result CommitFault.Disk → Rose (faults self.old) (faults self.new) }
-        ensures doubt_counted { IsErrOf result CommitFault.Doubt → Rose (faults self.old) (faults self.new) }
+        ensures disk { IsErrOf result CommitFault.Disk
+            → FaultCountRose (faults self.old) (faults self.new) }
+        ensures doubt_counted { IsErrOf result CommitFault.Doubt
+            → FaultCountRose (faults self.old) (faults self.new) }
         ensures never_falls { faults self.old ≤ faults self.new }
-        ensures unused { IfErr result (λ fault. IsFalse (is_of_disk fault) → faults self.new ≡ faults self.old) }
+        ensures unused { IfErr result (λ fault. IsFalse (is_of_disk fault)
+            → faults self.new ≡ faults self.old) }
         ensures stands { IsTrue tells → IfErr result (λ fault. IsFalse (is_of_disk fault) →
-            Stands (moment self.old) (moment self.new) (images_since self.old) (images_since self.new)) }
+            KeepsImages (moment self.old) (moment self.new) (images_since self.old)
+            (images_since self.new)) }
         ensures images { IsTrue tells →
             Took (moment self.old) (moment self.new) (images_since self.old) (images_since self.new)
-            (IsEither (image self.old) (version self.old) (changes_of changes.now)
-            (version_after (changes_of changes.now) (version self.old))) }
+            (IsOldOrNewImage (image self.old) (version self.old) (as_changes changes.now)
+            (version_after (as_changes changes.now) (version self.old))) }
         ensures leads { leads_to self.old self.new };
 
     /// Makes the changes that are in doubt. The answer is the next version, which is then the image's. After a fault they are in
     /// doubt still. Where nothing is in doubt there is nothing to make, and the answer is the version.
     fn settle(&mut self) -> Result<u64, DiskFault>
         ensures answer { IfOk result (λ number. number ≡ version self.new) }
-        ensures version { OnOk result (version self.new ≡ version_settled (doubt self.old) (version self.old)) }
+        ensures version { OnOk result (version self.new
+            ≡ version_settled (doubt self.old) (version self.old)) }
         ensures sure { OnOk result (doubt self.new ≡ None) }
-        ensures image { IsTrue tells → OnOk result (image self.new ≡ with_changes (image self.old) (changes_in (doubt self.old))) }
-        ensures room { IsTrue tells → OnOk result (room self.new ≡ room_settled (doubt self.old) (room self.old)) }
+        ensures image { IsTrue tells
+            → OnOk result (image self.new
+            ≡ with_changes (image self.old) (changes_in (doubt self.old))) }
+        ensures room { IsTrue tells
+            → OnOk result (room self.new ≡ room_settled (doubt self.old) (room self.old)) }
         ensures in_doubt { OnErr result (IsSome (doubt self.old)) }
         ensures doubtful { OnErr result (IsSome (doubt self.new)) }
         ensures same_doubt { IsTrue tells → OnErr result (doubt self.new ≡ doubt self.old) }
@@ -158,11 +174,11 @@ pub trait Vault {
         ensures same_image { IsTrue tells → OnErr result (image self.new ≡ image self.old) }
         ensures same_room { OnErr result (room self.new ≡ room self.old) }
         ensures size { size self.new ≡ size self.old }
-        ensures counted { OnErr result (Rose (faults self.old) (faults self.new)) }
+        ensures counted { OnErr result (FaultCountRose (faults self.old) (faults self.new)) }
         ensures never_falls { faults self.old ≤ faults self.new }
         ensures images { IsTrue tells →
             Took (moment self.old) (moment self.new) (images_since self.old) (images_since self.new)
-            (IsEither (image self.old) (version self.old) (changes_in (doubt self.old))
+            (IsOldOrNewImage (image self.old) (version self.old) (changes_in (doubt self.old))
             (version_settled (doubt self.old) (version self.old))) }
         ensures leads { leads_to self.old self.new };
 
@@ -178,7 +194,7 @@ pub trait Vault {
 
     /// In doubt a stop leaves that, or the image with the changes and the next version.
     ghost either_image: { (vault : Self) (changes : List Change) (saved : Saved) → IsTrue tells → doubt vault ≡ Some changes →
-        images_now vault saved → IsEither (image vault) (version vault) changes (version vault + 1) saved };
+        images_now vault saved → IsOldOrNewImage (image vault) (version vault) changes (version vault + 1) saved };
 
     /// A stop leaves something.
     ghost leaves_one: { (vault : Self) → IsTrue tells → (saved : Saved) × images_now vault saved };

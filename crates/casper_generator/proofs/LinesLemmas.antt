@@ -39,7 +39,7 @@ left_join clients joined ops finish served state h =
     let e : clients - joined ≡ suc (clients - (joined + 1)) = omega arith in
     ap (λ (n : ℕ). join_lines (joined + 1) n ++ (finish_lines finish ++ drawn_lines clients ops state) ++ serve_lines (served + 1) (clients - served)) e
 
--- what is left behind the joins
+-- what is left after the joins
 behind_joins : (clients joined ops : ℕ) (finish : Option ℕ) (served state : ℕ) → clients ≤ joined
     → lines_left clients joined ops finish served state ≡ (finish_lines finish ++ drawn_lines clients ops state) ++ serve_lines (served + 1) (clients - served)
 behind_joins clients joined ops finish served state h =
@@ -64,7 +64,7 @@ left_drawn clients joined ops before served state line finish h done some drawn 
     ∙ ap (λ (lines : List GenLine). (lines ++ drawn_lines clients (ops - 1) (state_after state)) ++ serve_lines (served + 1) (clients - served)) drawn
     ∙ sym (ap (λ (rest : List GenLine). line ∷ rest) (behind_joins clients joined (ops - 1) finish served (state_after state) h))
 
--- what is left behind the draws
+-- what is left after the draws
 behind_draws : (clients joined ops : ℕ) (finish : Option ℕ) (served state : ℕ) → clients ≤ joined → finish ≡ None → ops ≤ 0
     → lines_left clients joined ops finish served state ≡ serve_lines (served + 1) (clients - served)
 behind_draws clients joined ops finish served state h done none =

@@ -54,7 +54,7 @@ abbrev pub finish_lines : Option ℕ → List GenLine
 finish_lines None = []
 finish_lines (Some lead) = gen.Finish lead ∷ []
 
--- what is left of a schedule, behind so many joins and serves, with so many draws left
+-- what is left of a schedule, after so many joins and serves, with so many draws left
 abbrev pub lines_left : ℕ → ℕ → ℕ → Option ℕ → ℕ → ℕ → List GenLine
 lines_left clients joined ops finish served state =
     join_lines (joined + 1) (clients - joined) ++ (finish_lines finish ++ drawn_lines clients ops state) ++ serve_lines (served + 1) (clients - served)

@@ -3,7 +3,7 @@ use Rattle.std.specs.Fmt.{decimal}
 use Rattle.casper_generator.specs.declared.gen_line.GenLine.{GenLine}
 use Rattle.casper_generator.specs.declared.gen_line.GenLine.TheVariants as gen
 
--- numbers, each behind a space, and a newline
+-- numbers, each after a space, and a newline
 abbrev pub numbers_text : List ℕ → List ℕ
 numbers_text [] = codes "\n"
 numbers_text (number ∷ numbers) = codes " " ++ decimal number ++ numbers_text numbers

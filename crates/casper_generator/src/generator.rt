@@ -53,7 +53,8 @@ impl Generator {
 
     /// The next line, if one is left.
     pub fn next(&mut self) -> Option<GenLine>
-        ensures { MatchOption result ((self.old ≡ []) × (self.new ≡ [])) (λ line. self.old ≡ line ∷ self.new) }
+        ensures { MatchOption result ((self.old ≡ [])
+            × (self.new ≡ [])) (λ line. self.old ≡ line ∷ self.new) }
     {
         if self.joined < self.clients {
             self.joined += 1;
@@ -85,7 +86,7 @@ fn next_word(random: &mut SplitMix64) -> u64
     random.next_word()
 }
 
-/// The line that a word draws, and the lead whose write-out must be finished behind it, if it is one.
+/// The line that a word draws, and the lead whose write-out must be finished after it, if it is one.
 fn drawn_line(word: u64, clients: u32) -> (GenLine, Option<Who>)
     requires least { 1 ≤ clients }
     requires most { clients ≤ 32 }

@@ -8,7 +8,7 @@ use Rattle.casper_heap.proofs.Tests.{Met, met, none_from_end}
 use Rattle.casper_heap.proofs.WalkLemmas.{blocks_stop, blocks_go, along_walk}
 use Rattle.casper_heap.proofs.Reaching.{Reaches, here, later, fields_go, has_by, cond_swap, eq_flip}
 
--- a walk ends at or behind the place that it has come to
+-- a walk ends at or after the place that it has come to
 pub end_after_low : (words : List ℕ) (end at : ℕ) → at ≤ end_after at (blocks_at words end at)
 end_after_low words end at =
     along_walk words end (λ at. at ≤ end_after at (blocks_at words end at))

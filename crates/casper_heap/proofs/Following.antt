@@ -5,7 +5,7 @@ use Rattle.casper_space.specs.WordCalls.{HeldWords, HasMade}
 use Rattle.casper_space.proofs.Making.{made_both}
 
 module _ {S : Type 0} {seen : S → HeldWords} {step : S → Call → S → Type 0} where
-  -- behind calls that changed no word, calls by the words as they are then are calls by the words as they were
+  -- after calls that changed no word, calls by the words as they are then are calls by the words as they were
   pub made_then : {before between after : S} {first : List Call} (later : (ℕ → List ℕ) → List Call)
       → HasMade seen step before first between → (seen between).words ≡ (seen before).words
       → HasMade seen step between (later (seen between).words) after → HasMade seen step before (first ++ later (seen before).words) after

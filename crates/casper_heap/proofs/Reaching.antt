@@ -58,7 +58,7 @@ found words end test block at is =
     ])
     at is
 
--- the same header, and the same blocks behind it
+-- the same header, and the same blocks after it
 pub same_step : (words changed : List ℕ) (end at : ℕ) → slice_index changed at ≡ slice_index words at
     → (has_block words end at ≡ true → blocks_at changed end (block_end (block_at words at)) ≡ blocks_at words end (block_end (block_at words at)))
     → blocks_at changed end at ≡ blocks_at words end at
@@ -79,7 +79,7 @@ same_from words changed end at =
     (λ at has behind same. same_step words changed end at (same at (omega arith)) (λ _. behind (λ place low. same place (omega arith))))
     at
 
--- words that are set within a block, behind its header, change no walk
+-- words that are set within a block, after its header, change no walk
 pub same_within : (words changed : List ℕ) (end place : ℕ) → ((k : ℕ) → k ≤ place → slice_index changed k ≡ slice_index words k)
     → ((k : ℕ) → block_end (block_at words place) ≤ k → slice_index changed k ≡ slice_index words k)
     → {at : ℕ} → Reaches words end at place → blocks_at changed end at ≡ blocks_at words end at

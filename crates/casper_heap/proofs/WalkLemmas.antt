@@ -21,7 +21,7 @@ enough_steps words end (suc steps) (suc more) place enough also =
     (enough_steps words end steps more (block_end (block_at words place)) (omega arith) (omega arith)))
     (λ _. refl)
 
--- the blocks from a place on: the one that stands there, and those behind it
+-- the blocks from a place on: the one that stands there, and those after it
 pub blocks_step : (words : List ℕ) (end place : ℕ)
     → blocks_at words end place ≡ cond (has_block words end place) (block_at words place ∷ blocks_at words end (block_end (block_at words place))) []
 blocks_step words zero place =
@@ -45,7 +45,7 @@ module _ (words : List ℕ) (end place : ℕ) where
       blocks_step words end place
       ∙ ap (λ b. cond b (block_at words place ∷ blocks_at words end (block_end (block_at words place))) []) is
 
--- what holds where a walk stops, and holds before a block if it holds behind it, holds at each place
+-- what holds where a walk stops, and holds before a block if it holds after it, holds at each place
 module _ (words : List ℕ) (end : ℕ) (P : ℕ → Type 0)
     (stop : (place : ℕ) → has_block words end place ≡ false → P place)
     (go : (place : ℕ) → has_block words end place ≡ true → P (block_end (block_at words place)) → P place) where

@@ -51,7 +51,7 @@ used_end words = end_of (slice_index words 0)
 unfoldable pub blocks_of : List ℕ → List HeapBlock
 blocks_of words = blocks_at words (used_end words) 1
 
--- the place behind the last of these blocks
+-- the place after the last of these blocks
 abbrev pub end_after : ℕ → List HeapBlock → ℕ
 end_after place [] = place
 end_after place (block ∷ blocks) = end_after (block_end block) blocks

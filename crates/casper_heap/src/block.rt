@@ -1,9 +1,6 @@
 ghost use Rattle.std.specs.Prelude.{◌≡◌, ◌+◌, ◌<◌, ◌≤◌, ◌&&◌, nat_lt, cond, find, not, ◌==◌, option_map};
 ghost use Rattle.casper_heap.specs.Walk.{end_of, block_if, fields_in, first_free, end_after};
 
-/// The number of words of a page.
-pub(crate) const WORDS: u32 = 512;
-
 /// A block of a page: the place of its header, its number of fields, and whether it is live.
 #[derive(Clone, Copy, Debug, Default, PartialEq, Eq)]
 pub(crate) struct HeapBlock {
@@ -31,7 +28,7 @@ impl HeapBlock {
         })
     }
 
-    /// The place behind the block.
+    /// The place after the block.
     pub(crate) fn end(&self) -> u32
         requires fields { self.now.fields ≤ 64 }
         requires place { self.now.place ≤ 512 }

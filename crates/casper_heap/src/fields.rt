@@ -12,7 +12,7 @@ use crate::HeapFault;
 use crate::block::HeapBlock;
 use crate::walk::{fields_at, walk_page};
 use casper_space::Words;
-use casper_words::{Page, Ref};
+use casper_words::{Frame, Page, Ref};
 
 /// The number of fields of an object, after the walk of its page.
 pub(crate) fn count_fields<W: Words>(words: &mut W, page: Page, word: u32) -> Option<u32>
@@ -20,7 +20,8 @@ pub(crate) fn count_fields<W: Words>(words: &mut W, page: Page, word: u32) -> Op
     requires room { 172 ≤ (W.seen words.old).room }
     ensures count { result ≡ count_at ((W.seen words.old).words page) word }
     ensures within { IfSome result (λ count. (count ≤ 64) × (word + count + 2 ≤ 512)) }
-    ensures made { HasMade W.seen W.step words.old (walk_calls (W.seen words.old).words page) words.new }
+    ensures made { HasMade W.seen W.step words.old
+        (walk_calls (W.seen words.old).words page) words.new }
     ensures words { (W.seen words.new).words ≡ (W.seen words.old).words }
     ensures few { (W.seen words.old).room ≤ (W.seen words.new).room + 172 }
 {
@@ -34,7 +35,8 @@ fn find_field<W: Words>(words: &mut W, page: Page, word: u32, i: u32) -> Result<
     requires room { 172 ≤ (W.seen words.old).room }
     ensures answer { result ≡ place_if (count_at ((W.seen words.old).words page) word) word i }
     ensures within { OnOk result ((i < 64) × (word + 2 + i < 512)) }
-    ensures made { HasMade W.seen W.step words.old (walk_calls (W.seen words.old).words page) words.new }
+    ensures made { HasMade W.seen W.step words.old
+        (walk_calls (W.seen words.old).words page) words.new }
     ensures words { (W.seen words.new).words ≡ (W.seen words.old).words }
     ensures few { (W.seen words.old).room ≤ (W.seen words.new).room + 172 }
 {
@@ -55,7 +57,9 @@ fn store<W: Words>(words: &mut W, page: Page, word: u32, i: u32, value: u64, is_
     requires room { 3 ≤ (W.seen words.old).room }
     ensures made { let page_words = (W.seen words.old).words page in
         let tags = tags_at page_words word in
-        HasMade W.seen W.step words.old (store_calls page page_words word i value (cond is_reference (with_tag tags i) (without_tag tags i))) words.new }
+        HasMade W.seen W.step words.old
+        (store_calls page page_words word i value
+        (cond is_reference (with_tag tags i) (without_tag tags i))) words.new }
     ensures long { length ((W.seen words.old).words page) ≡ 512 }
 {
     let tags = words.get(page, word + 1);
@@ -82,7 +86,8 @@ fn count_second<W: Words>(
     requires walked { blocks.now ≡ blocks_of ((W.seen words.old).words page) }
     ensures count { result ≡ count_at ((W.seen words.old).words other) word }
     ensures within { IfSome result (λ _. word < 512) }
-    ensures made { HasMade W.seen W.step words.old (cond (other == page) [] (walk_calls (W.seen words.old).words other)) words.new }
+    ensures made { HasMade W.seen W.step words.old
+        (cond (other == page) [] (walk_calls (W.seen words.old).words other)) words.new }
     ensures words { (W.seen words.new).words ≡ (W.seen words.old).words }
     ensures few { (W.seen words.old).room ≤ (W.seen words.new).room + 172 }
 {
@@ -104,12 +109,15 @@ fn count_where_both<W: Words>(
     requires held { IsSome ((W.seen words.old).right page) }
     requires other_held { IsSome ((W.seen words.old).right other) }
     requires room { 344 ≤ (W.seen words.old).room }
-    ensures answer { result ≡ count_if_both (count_at ((W.seen words.old).words page) word) (count_at ((W.seen words.old).words other) other_word) }
+    ensures answer { result
+        ≡ count_if_both (count_at ((W.seen words.old).words page) word)
+        (count_at ((W.seen words.old).words other) other_word) }
     ensures within { IfOk result (λ count. (count ≤ 64) × (word + count + 2 ≤ 512)) }
     ensures target { OnOk result (other_word < 512) }
     ensures made { let pages = (W.seen words.old).words in
         HasMade W.seen W.step words.old (walk_calls pages page
-        ++ where_object (count_at (pages page) word) (cond (other == page) [] (walk_calls pages other))) words.new }
+        ++ where_object (count_at (pages page) word)
+        (cond (other == page) [] (walk_calls pages other))) words.new }
     ensures words { (W.seen words.new).words ≡ (W.seen words.old).words }
     ensures few { (W.seen words.old).room ≤ (W.seen words.new).room + 344 }
 {
@@ -127,7 +135,7 @@ fn count_where_both<W: Words>(
 fn number_of_place(page: Page, word: u32) -> u64
     ensures { result ≡ 512 * page + word }
 {
-    512 * u64::from(page.0) + u64::from(word)
+    u64::from(Frame::WORDS) * u64::from(page.0) + u64::from(word)
 }
 
 /// A field as a reference, by the tags of its object and its own word.
@@ -135,13 +143,13 @@ fn as_reference(tags: u64, i: u32, value: u64, pages: u32) -> Result<Ref, HeapFa
     requires { i < 64 }
     ensures { result ≡ target_of pages (Some (field_of (bit_at tags i) value)) }
 {
-    let page = value / 512;
+    let page = value / u64::from(Frame::WORDS);
     if (tags >> i) & 1 == 0 || page >= u64::from(pages) {
         return Err(HeapFault::NotARef);
     }
     Ok(Ref {
         page: Page(page as u32),
-        word: (value % 512) as u32,
+        word: (value % u64::from(Frame::WORDS)) as u32,
     })
 }
 
@@ -153,7 +161,8 @@ pub fn set_number<W: Words>(words: &mut W, r: Ref, i: u32, v: u64) -> Result<(),
     ensures answer { result ≡ answer_of_set (objects_of (W.seen words.old).words r) i }
     ensures changed { OnOk result ((other : Ref) → objects_of (W.seen words.new).words other
         ≡ with_field (objects_of (W.seen words.old).words) r i (Number v) other) }
-    ensures made { HasMade W.seen W.step words.old (set_calls (W.seen words.old).words r i v) words.new }
+    ensures made { HasMade W.seen W.step words.old
+        (set_calls (W.seen words.old).words r i v) words.new }
     ensures few { (W.seen words.old).room ≤ (W.seen words.new).room + 600 }
     ensures refused { OnErr result ((W.seen words.new).words ≡ (W.seen words.old).words) }
 {
@@ -167,7 +176,8 @@ pub fn get<W: Words>(words: &mut W, r: Ref, i: u32) -> Result<u64, HeapFault>
     requires held { IsSome ((W.seen words.old).right r.page) }
     requires room { 600 ≤ (W.seen words.old).room }
     ensures answer { result ≡ answer_of_get (objects_of (W.seen words.old).words r) i }
-    ensures made { HasMade W.seen W.step words.old (get_calls (W.seen words.old).words r i) words.new }
+    ensures made { HasMade W.seen W.step words.old
+        (get_calls (W.seen words.old).words r i) words.new }
     ensures few { (W.seen words.old).room ≤ (W.seen words.new).room + 600 }
     ensures same { (W.seen words.new).words ≡ (W.seen words.old).words }
 {
@@ -181,10 +191,12 @@ pub fn set_ref<W: Words>(words: &mut W, r: Ref, i: u32, to: Ref) -> Result<(), H
     requires held { (W.seen words.old).right r.page ≡ Some Right.Write }
     requires target { IsSome ((W.seen words.old).right to.page) }
     requires room { 600 ≤ (W.seen words.old).room }
-    ensures answer { let objects = objects_of (W.seen words.old).words in result ≡ answer_of_ref (objects r) (objects to) i }
+    ensures answer { let objects = objects_of (W.seen words.old).words in result
+        ≡ answer_of_ref (objects r) (objects to) i }
     ensures changed { OnOk result ((other : Ref) → objects_of (W.seen words.new).words other
         ≡ with_field (objects_of (W.seen words.old).words) r i (Reference to.page to.word) other) }
-    ensures made { HasMade W.seen W.step words.old (ref_calls (W.seen words.old).words r i to) words.new }
+    ensures made { HasMade W.seen W.step words.old
+        (ref_calls (W.seen words.old).words r i to) words.new }
     ensures few { (W.seen words.old).room ≤ (W.seen words.new).room + 600 }
     ensures refused { OnErr result ((W.seen words.new).words ≡ (W.seen words.old).words) }
 {
@@ -202,7 +214,8 @@ pub fn follow<W: Words>(words: &mut W, r: Ref, i: u32, pages: u32) -> Result<Ref
     requires held { IsSome ((W.seen words.old).right r.page) }
     requires room { 600 ≤ (W.seen words.old).room }
     ensures answer { result ≡ answer_of_follow pages (objects_of (W.seen words.old).words r) i }
-    ensures made { HasMade W.seen W.step words.old (follow_calls (W.seen words.old).words r i) words.new }
+    ensures made { HasMade W.seen W.step words.old
+        (follow_calls (W.seen words.old).words r i) words.new }
     ensures few { (W.seen words.old).room ≤ (W.seen words.new).room + 600 }
     ensures same { (W.seen words.new).words ≡ (W.seen words.old).words }
 {

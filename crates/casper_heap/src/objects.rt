@@ -12,14 +12,15 @@ use crate::fields::count_fields;
 use crate::walk::{free_place, walk_page};
 use crate::{HeapFault, PageFull};
 use casper_space::Words;
-use casper_words::{Page, Ref};
+use casper_words::{Frame, Page, Ref};
 
 /// Whether a reference names an object, after the walk of its page.
 pub fn is_object<W: Words>(words: &mut W, r: Ref) -> bool
     requires held { IsSome ((W.seen words.old).right r.page) }
     requires room { 172 ≤ (W.seen words.old).room }
     ensures answer { result ≡ is_some (objects_of (W.seen words.old).words r) }
-    ensures made { HasMade W.seen W.step words.old (walk_calls (W.seen words.old).words r.page) words.new }
+    ensures made { HasMade W.seen W.step words.old
+        (walk_calls (W.seen words.old).words r.page) words.new }
     ensures words { (W.seen words.new).words ≡ (W.seen words.old).words }
     ensures few { (W.seen words.old).room ≤ (W.seen words.new).room + 172 }
 {
@@ -34,7 +35,8 @@ pub fn free_object<W: Words>(words: &mut W, r: Ref) -> Result<(), HeapFault>
     ensures answer { result ≡ answer_of_free (objects_of (W.seen words.old).words r) }
     ensures changed { OnOk result ((other : Ref) → objects_of (W.seen words.new).words other
         ≡ with_object (objects_of (W.seen words.old).words) r None other) }
-    ensures made { HasMade W.seen W.step words.old (free_calls (W.seen words.old).words r) words.new }
+    ensures made { HasMade W.seen W.step words.old
+        (free_calls (W.seen words.old).words r) words.new }
     ensures few { (W.seen words.old).room ≤ (W.seen words.new).room + 600 }
     ensures refused { OnErr result ((W.seen words.new).words ≡ (W.seen words.old).words) }
 {
@@ -79,20 +81,21 @@ fn place_for(free: Option<u32>, end: u32, count: u32) -> Option<u32>
 {
     if free.is_some() {
         free
-    } else if end + count + 2 <= 512 {
+    } else if end + count + 2 <= Frame::WORDS {
         Some(end)
     } else {
         None
     }
 }
 
-/// Writes a new object, and behind it the end of the used part, unless it took a free block.
+/// Writes a new object, and after it the end of the used part, unless it took a free block.
 fn write_new<W: Words>(words: &mut W, page: Page, free: Option<u32>, place: u32, count: u32)
     requires held { (W.seen words.old).right page ≡ Some Right.Write }
     requires within { place + count + 2 ≤ 512 }
     requires room { count + 3 ≤ (W.seen words.old).room }
     ensures made { HasMade W.seen W.step words.old
-        (object_writes page place count ++ cond (is_some free) [] (write_of page 0 (place + count + 2) ∷ [])) words.new }
+        (object_writes page place count
+        ++ cond (is_some free) [] (write_of page 0 (place + count + 2) ∷ [])) words.new }
     ensures long { length ((W.seen words.old).words page) ≡ 512 }
 {
     write_object(words, page, place, count);
@@ -109,11 +112,14 @@ pub fn alloc_object<W: Words>(words: &mut W, page: Page, n: u32) -> Result<Ref, 
     requires few { n ≤ 64 }
     requires room { 600 ≤ (W.seen words.old).room }
     ensures answer { let page_words = (W.seen words.old).words page in
-        result ≡ answer_of_new (place_of_new (first_free (blocks_of page_words) n) (walk_end page_words) n) page }
+        result ≡ answer_of_new
+        (place_of_new (first_free (blocks_of page_words) n) (walk_end page_words) n) page }
     ensures new { IfOk result (λ r. objects_of (W.seen words.old).words r ≡ None) }
     ensures changed { IfOk result (λ r. (other : Ref) → objects_of (W.seen words.new).words other
-        ≡ with_object (objects_of (W.seen words.old).words) r (Some (replicate n (Number 0))) other) }
-    ensures made { HasMade W.seen W.step words.old (new_calls (W.seen words.old).words page n) words.new }
+        ≡ with_object (objects_of (W.seen words.old).words) r
+        (Some (replicate n (Number 0))) other) }
+    ensures made { HasMade W.seen W.step words.old
+        (new_calls (W.seen words.old).words page n) words.new }
     ensures few { (W.seen words.old).room ≤ (W.seen words.new).room + 600 }
     ensures refused { OnErr result ((W.seen words.new).words ≡ (W.seen words.old).words) }
 {

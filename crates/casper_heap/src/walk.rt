@@ -2,10 +2,10 @@ ghost use Rattle.std.specs.Prelude.{◌≡◌, ◌+◌, ◌<◌, ◌≤◌, IsSo
 ghost use Rattle.casper_space.specs.WordCalls.{HasMade};
 ghost use Rattle.casper_heap.specs.Walk.{has_block, block_at, blocks_of, fields_in, first_free, walk_end, read_at, walk_calls};
 
-use crate::block::{HeapBlock, WORDS};
+use crate::block::HeapBlock;
 use arrayvec::ArrayVec;
 use casper_space::Words;
-use casper_words::Page;
+use casper_words::{Frame, Page};
 
 /// The blocks of a page, in order. As a block has three words at least, there are at most 170.
 pub(crate) type Blocks = ArrayVec<HeapBlock, 170>;
@@ -25,7 +25,8 @@ fn next_block<W: Words>(words: &mut W, page: Page, place: u32, end: u32) -> Opti
     ensures block { let page_words = (W.seen words.old).words page in
         result ≡ cond (has_block page_words end place) (Some (block_at page_words place)) None }
     ensures made { HasMade W.seen W.step words.old
-        (cond (nat_lt place end) (read_at page ((W.seen words.old).words page) place ∷ []) []) words.new }
+        (cond (nat_lt place end)
+        (read_at page ((W.seen words.old).words page) place ∷ []) []) words.new }
 {
     if place >= end {
         return None;
@@ -41,12 +42,13 @@ pub(crate) fn walk_page<W: Words>(words: &mut W, page: Page) -> Walk
     ensures blocks { result.blocks.items ≡ blocks_of ((W.seen words.old).words page) }
     ensures end { result.end ≡ walk_end ((W.seen words.old).words page) }
     ensures within { result.end ≤ 512 }
-    ensures made { HasMade W.seen W.step words.old (walk_calls (W.seen words.old).words page) words.new }
+    ensures made { HasMade W.seen W.step words.old
+        (walk_calls (W.seen words.old).words page) words.new }
     ensures words { (W.seen words.new).words ≡ (W.seen words.old).words }
     ensures few { (W.seen words.old).room ≤ (W.seen words.new).room + 172 }
 {
     let first = words.get(page, 0);
-    let end = first.max(1).min(WORDS as u64) as u32;
+    let end = first.max(1).min(Frame::WORDS as u64) as u32;
     let mut blocks = Blocks::new();
     let mut place = 1;
     while let Some(block) = next_block(words, page, place, end) {

@@ -104,7 +104,7 @@ module _ (shared : Shared) (own : Own) (wants : List Want) (calls : ℕ) where
       (missing_refuses both.shared both.own.who (given_in_opening shared own) missing) (full_refuses both missing calls))
       refl granted
 
--- behind an acquire that is granted the wants are held with their rights, and there is room for the calls
+-- after an acquire that is granted the wants are held with their rights, and there is room for the calls
 pub grants_rights : (state : State) → InOrder state → GrantsRightsAndRoom state
 grants_rights state order who wants calls outside is =
     unless_turn (λ turn. turn.answer ≡ answer.Granted → HasRightsAndRoom (own_at turn.state who) wants calls) state _ _

@@ -26,7 +26,7 @@ can_with own want has =
     and_from (allows own.held want.page want.right) (nat_lt 0 (room_of own)) (has.rights want (contains_here want []))
     (lt-ltb 0 (room_of own) (let room = has.room (omega arith) in omega (arith, room)))
 
--- behind an acquire of one page that is granted the call can be made
+-- after an acquire of one page that is granted the call can be made
 can_call : (state : State) (who : ℕ) (want : Want) (outside : Outside) → InOrder state → IsClient who
     → let turn = acquire_step state who (want ∷ []) 1 outside in
     is_granted turn.answer ≡ true → can_hit (own_at turn.state who) want.page want.right ≡ true

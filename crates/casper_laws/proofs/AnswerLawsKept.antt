@@ -20,7 +20,7 @@ use Rattle.casper_model.specs.Frozen.{stabilisation_of}
 use Rattle.casper_model.specs.Join.{joined_by}
 use Rattle.casper_model.specs.Leave.{served_by, departed_by, vanished_by, absent}
 use Rattle.casper_model.specs.Loss.{fallen_behind, rolled_back, lost_in, lose_by}
-use Rattle.casper_model.specs.Opening.{kept_dropped, told, recorded, begun, given_up, gathering_of, handed_in, handed_in_to, opened, given_in_opening}
+use Rattle.casper_model.specs.Opening.{kept_dropped, told_of_fall, recorded, begun, given_up, gathering_of, handed_in, handed_in_to, opened, given_in_opening}
 use Rattle.casper_model.specs.Own.{Own}
 use Rattle.casper_model.specs.Room.{free_room}
 use Rattle.casper_model.specs.Shared.{Shared, client_at, fallen_at, of_client, each_client, change_client, place_client}
@@ -79,7 +79,7 @@ well_placed who place shared is are number = by_number (cases_eq number who)
 well_agreed : (shared : Shared) (own : Own) → AreWell shared → AreWell (agreed shared own).shared
 well_agreed shared own = well_changed own.who (λ client. record client { cap = own.cap; rights = own.held }) shared (λ client is. is)
 
-well_told : (shared : Shared) (own : Own) → AreWell shared → AreWell (told shared own).shared
+well_told : (shared : Shared) (own : Own) → AreWell shared → AreWell (told_of_fall shared own).shared
 well_told shared own = well_changed own.who (λ client. record client { kept = None; fallen = None }) shared (λ client is. refl)
 
 well_handed_in : (both : Both) (one : Option Stabilisation) → AreWell both.shared → AreWell (handed_in_to both one).shared

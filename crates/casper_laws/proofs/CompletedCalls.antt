@@ -39,7 +39,7 @@ use Rattle.casper_laws.specs.OwnLists.{own_list_of, read_completed, write_comple
 use Rattle.casper_laws.proofs.OwnListSteps.{Keeps, SameLists, left_to, passed, both_never, recorded_same, acquire_keeps, serve_keeps, stabilise_keeps, depart_keeps, vanish_keeps, join_keeps, hit_adds, marks_keep}
 use Rattle.casper_laws.proofs.KeptCalls.{every_run_calls}
 
--- what holds of a refusal that changes nothing, and of a turn, holds behind a step that a test guards
+-- what holds of a refusal that changes nothing, and of a turn, holds after a step that a test guards
 pub guarded_turn : (P : Turn → Type 0) (test : Bool) (refusal : Answer) (state : State) (turn : State → Turn) → P (record { answer = refusal; state = state })
     → (test ≡ true → P (turn state)) → P (guarded test refusal state turn)
 guarded_turn P true refusal state turn stays moves = moves refl
@@ -72,7 +72,7 @@ none_either : (same : Bool) (calls : List Call) → calls ≡ [] → cond same c
 none_either true calls none = none
 none_either false calls none = refl
 
--- behind a step of a client each has the calls that the step leaves it, and those of the client that the answer completes
+-- after a step of a client each has the calls that the step leaves it, and those of the client that the answer completes
 abbrev Gains : ℕ → (Answer → List Call) → State → Turn → Type 0
 Gains who completed state turn =
     (number : ℕ)

@@ -204,7 +204,7 @@ module _ (state : State) (who : ℕ) (order : InOrder state) where
       (stabilise_is_turn (stabilised_by state.shared (own_at state who) None).reply)
       (trail_stabilised (opened state.shared (own_at state who)) (kept_at state.shared (own_at state who).who)) (fallen_at state.shared (own_at state who).who) refl
 
-  -- a call: a hit, or an acquire and perhaps the hit behind it
+  -- a call: a hit, or an acquire and perhaps the hit after it
   module _ (act : Op) (page word : ℕ) (want : Want) (given : State → Answer) (seen : State → ℕ)
       (made : (after : State) → acquire_entries state who (want ∷ []) (given after) ≡ acquire_entries state who (want ∷ []) answer.Granted) where
     behind_adds : (turn : Turn) → is_granted turn.answer ≡ true → AddsBy (acquire_entries state who (want ∷ [])) turn → (can : Bool)

@@ -21,7 +21,7 @@ use Rattle.casper_turns.proofs.FrozenChanges.{one_of_lead}
 use Rattle.casper_turns.proofs.LeaveFrozen.{rolled_back_frozen}
 use Rattle.casper_model.specs.declared.outcome.Outcome.TheVariants as outcome
 
--- what holds behind the finish of a write-out, or a settle: no two are in doubt, and one is where the write-out ended so
+-- what holds after the finish of a write-out, or a settle: no two are in doubt, and one is where the write-out ended so
 pub record FinishedWell (after : Shared) (doubt : Bool) : Type 0 where
   pub frozen : AreFrozen after
   pub most : (one other : Stabilisation) → Contains after.stabilisations one → Contains after.stabilisations other
@@ -151,7 +151,7 @@ commit_doubt vault (change ∷ changes) outside none =
     by_refusal None is = by_outside outside
     by_refusal (Some refusal) is = none ∙ sym is
 
--- the state behind a finish
+-- the state after a finish
 pub finish_order : (state : State) (lead : ℕ) (unfinished : Unfinished) → HasOrderlyStabilisations state → state.unfinished ≡ Some unfinished
     → (unfinished.lead == lead) ≡ true → HasOrderlyStabilisations (finish_turn lead unfinished.outcome state).state
 finish_order state lead unfinished order e same =
@@ -160,7 +160,7 @@ finish_order state lead unfinished order e same =
     finish_well state.shared lead unfinished.outcome order.frozen (subst (IsSealedBy state.shared) (eqb-true unfinished.lead lead same) stands.stabilisation) stands.alone in
     record { frozen = well.frozen; written = record { most = well.most; doubt = stands.doubt ∙ sym well.any } }
 
--- behind a settle
+-- after a settle
 settle_written : (state : State) (one : Stabilisation) (unfinished : Option Unfinished) → doubtful_of state.shared ≡ Some one → AreFrozen state.shared
     → AreWriteOutsInOrder state unfinished → AreFrozen (settled state.shared).shared × AreWriteOutsInOrder (settle_turn state).state unfinished
 settle_written state one (Some unfinished) e frozen order =
@@ -175,7 +175,7 @@ pub settle_order : (state : State) (one : Stabilisation) → HasOrderlyStabilisa
 settle_order state one order e =
     let done = settle_written state one state.unfinished e order.frozen order.written in record { frozen = done.0; written = done.1 }
 
--- behind a write-out
+-- after a write-out
 unmapped : {X Y : Type 0} (f : X → Y) (one : Option X) → option_map f one ≡ None → one ≡ None
 unmapped f None is = refl
 unmapped f (Some x) is = absurd (true≢false (ap is_some is))

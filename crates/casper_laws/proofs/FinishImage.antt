@@ -29,7 +29,7 @@ record IsStoredAfter (base : List (List ℕ)) (after : Shared) (image settles : 
   stable : image ≡ image_of base after.trail
   doubtful : (one : Stabilisation) → Contains after.stabilisations one → is_doubtful one.phase ≡ true → settles ≡ image_with base after.trail one.lead
 
--- where none is in doubt behind it
+-- where none is in doubt after it
 stored_without_doubt : (base : List (List ℕ)) (after : Shared) (image settles : List (List ℕ)) → is_any_doubtful after ≡ false → image ≡ image_of base after.trail
     → IsStoredAfter base after image settles
 stored_without_doubt base after image settles none stable = record {
@@ -83,7 +83,7 @@ finish_image base shared lead how image settles frozen seal none is doubt =
         finished_image base shared one how image settles none well (is ∙ ap (λ number. image_by base shared.trail number how) (sym led))
         (λ ended. doubt ended ∙ ap (image_with base shared.trail) (sym led))
 
--- the stored image behind a finish
+-- the stored image after a finish
 pub finish_stored : (state : State) (lead : ℕ) (unfinished : Unfinished) → HasOrderlyStabilisations state → HasStoredImage state
     → state.unfinished ≡ Some unfinished → (unfinished.lead == lead) ≡ true → HasStoredImage (finish_turn lead unfinished.outcome state).state
 finish_stored state lead unfinished orderly stored e same =
@@ -96,7 +96,7 @@ finish_stored state lead unfinished orderly stored e same =
     (λ ended. stored.unfinished unfinished e ended ∙ ap (image_with state.base state.shared.trail) led) in
     record { shape = stored.shape; image = after.stable; unfinished = λ one none. absurd (not_some one none); doubtful = after.doubtful }
 
--- behind a settle
+-- after a settle
 settle_image : (state : State) (one : Stabilisation) (unfinished : Option Unfinished) → state.unfinished ≡ unfinished → doubtful_of state.shared ≡ Some one
     → HasOrderlyStabilisations state → HasStoredImage state → AreWriteOutsInOrder state unfinished → HasStoredImage (settle_turn state).state
 settle_image state one (Some unfinished) is e orderly stored order =

@@ -17,7 +17,7 @@ pub guarded_turn : (P : Turn → Type 0) (test : Bool) (refusal : Answer) (state
 guarded_turn P true refusal state turn stays moves = moves refl
 guarded_turn P false refusal state turn stays moves = stays
 
--- a call by a hit, or by an acquire and the hit behind it
+-- a call by a hit, or by an acquire and the hit after it
 module _ (P : Turn → Type 0) (one : ℕ) (act : Op) (page word : ℕ) (answer : State → Answer) (value : State → ℕ) where
   abbrev by_hit : State → Turn
   by_hit state = record { answer = answer state; state = with_own state (with_call (own_at state one) act page word (value state)) }

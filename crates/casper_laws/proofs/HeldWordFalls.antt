@@ -38,7 +38,7 @@ abbrev pub FallsNow : Shared → ℕ → Fallen → Type 0
 FallsNow shared who fallen =
     (lost : ℕ) × (has_member who (association_of shared.trail lost) ≡ true) × (fallen_at shared lost ≡ None) × (fallen.seen ≡ live_entries shared.trail)
 
--- who is fallen behind a change was so before, or falls now
+-- who is fallen after a change was so before, or falls now
 abbrev pub FallsWell : Shared → Shared → Type 0
 FallsWell shared after = (who : ℕ) (fallen : Fallen) → fallen_at after who ≡ Some fallen → (fallen_at shared who ≡ Some fallen) ⊎ FallsNow shared who fallen
 

@@ -58,7 +58,7 @@ acquire_of_no_call state who wants calls outside = unless _ _ (reply_of_no_call 
     unless true turn never = (refl, refl)
     unless false turn never = never
 
--- what a client sees behind its hit
+-- what a client sees after its hit
 seen_by_hit : (state : State) (who : ℕ) (act : Op) (page word value : ℕ) → InOrder state → IsClient who
     → value_seen (with_own state (with_call (own_at state who) act page word value)) who page word
     ≡ value_after page word (value_seen state who page word) (entry_by who (record { op = act; page = page; word = word; value = value }))

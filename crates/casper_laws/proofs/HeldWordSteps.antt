@@ -42,7 +42,7 @@ use Rattle.casper_trail.specs.Parts.{live_entries}
 use Rattle.casper_model.proofs.StepRights.{ordered_acquire}
 use Rattle.casper_model.proofs.TurnHistory.{acquire_records, serve_records, stabilise_records, depart_records}
 use Rattle.casper_laws.specs.RunFacts.{HoldsPage}
-use Rattle.casper_laws.specs.HeldWordSteps.{is_turn_of, is_write_of, is_ok, KeepsHeldWords, EveryStepKeepsHeldWords, OthersLeaveEachHeldWord}
+use Rattle.casper_laws.specs.HeldWordSteps.{is_turn_of, is_write_of_word, is_ok, KeepsHeldWords, EveryStepKeepsHeldWords, OthersLeaveEachHeldWord}
 use Rattle.casper_laws.proofs.HeldWordTurns.{own_apart, seen_with_call, SeesTheSame, words_apart, words_marked, words_turned}
 use Rattle.casper_laws.proofs.RunFacts.{every_run_history}
 use Rattle.casper_laws.proofs.StepFrozen.{below_places}
@@ -54,7 +54,7 @@ module _ (state : State) (has : HasHistory state) (who page word : ℕ) (holds :
   abbrev Sees : State → Type 0
   Sees = SeesTheSame state has who page word holds
 
-  -- behind a hit that does not write the word for it
+  -- after a hit that does not write the word for it
   sees_hit : (after : State) (one : ℕ) (act : Op) (at place value : ℕ) → InOrder after → IsClient one
       → (who ≡ one → writes_word page word (entry_by one (record { op = act; page = at; word = place; value = value })) ≡ false) → Sees after
       → Sees (with_own after (with_call (own_at after one) act at place value))
@@ -105,7 +105,7 @@ module _ (state : State) (has : HasHistory state) (who page word : ℕ) (holds :
 
   -- a write may be of the word itself, for the client, unless it is not answered Ok
   abbrev SeesUnless : Event → Turn → Type 0
-  SeesUnless event turn = (is_write_of who page word event && is_ok turn.answer) ≡ false → Sees turn.state
+  SeesUnless event turn = (is_write_of_word who page word event && is_ok turn.answer) ≡ false → Sees turn.state
 
   written_elsewhere : (one at place : ℕ) → (((one == who) && ((at == page) && (place == word))) && true) ≡ false → who ≡ one → ((at == page) && (place == word)) ≡ false
   written_elsewhere one at place e same =
@@ -174,7 +174,7 @@ module _ (state : State) (has : HasHistory state) (who page word : ℕ) (holds :
           words_marked state has who page word holds lost (marks_vanished state.shared own (fallen_at state.shared own.who)) stands.0
           (sym (client_unplaced own.who None lost who away) ∙ stands.1) stands.2)
 
-  -- behind what is no turn of a client
+  -- after what is no turn of a client
   sees_marked : (after : State) → after.base ≡ state.base → after.owns ≡ state.owns → Marks state.shared after.shared → Sees after
   sees_marked after base owns marks =
       words_apart state has who page word holds after base (ap (λ (parts : List Own). slice_index_or parts who (blank who 0)) owns)
@@ -255,7 +255,7 @@ every_step_keeps_held_words vault pages limit capacity happenings named event ou
     keeps_held_words (state_after (start vault pages limit capacity) happenings) event outside is (every_run_history vault pages limit capacity happenings named)
 
 -- a write of a client is a turn of it
-no_write_of : (who page word : ℕ) (event : Event) → is_turn_of who event ≡ false → is_write_of who page word event ≡ false
+no_write_of : (who page word : ℕ) (event : Event) → is_turn_of who event ≡ false → is_write_of_word who page word event ≡ false
 no_write_of who page word (event.Write one at place value) e = ap (λ is. is && ((at == page) && (place == word))) e
 no_write_of who page word (event.Join one) e = refl
 no_write_of who page word (event.Read one at place) e = refl

@@ -54,13 +54,13 @@ touches_write_nothing : (who : ℕ) (wants : List Want) (page : ℕ) (entry : En
 touches_write_nothing who wants page entry inside writes =
     true≢false (sym (writes_added who [] [] wants (λ call pending. absurd (nothing_in call pending)) entry page inside writes).1)
 
--- behind entries with the same words, more entries make the same words
+-- after entries with the same words, more entries make the same words
 same_front : (base : List (List ℕ)) (one other more : List Entry) (page word : ℕ) → value_of base one page word ≡ value_of base other page word
     → value_of base (one ++ more) page word ≡ value_of base (other ++ more) page word
 same_front base one other more page word same =
     value_of_more base one more page word ∙ ap (λ value. fold (value_after page word) value more) same ∙ sym (value_of_more base other more page word)
 
--- the words behind one call more
+-- the words after one call more
 pub seen_with_call : (base : List (List ℕ)) (shared : Shared) (own : Own) (act : Op) (at place value page word : ℕ)
     → value_of base (view shared (with_call own act at place value)) page word
     ≡ value_after page word (value_of base (view shared own) page word) (entry_by own.who (record { op = act; page = at; word = place; value = value }))
@@ -113,7 +113,7 @@ module _ (state : State) (has : HasHistory state) (who page word : ℕ) (holds :
       ap (λ (one : Own). value_of state.base (live_entries after.shared.trail ++ entries_by who one.pending) page word) own
       ∙ same_front state.base (live_entries after.shared.trail) (live_entries state.shared.trail) (entries_by who (own_at state who).pending) page word (same stands))
 
-  -- behind what is no turn of a client
+  -- after what is no turn of a client
   pub words_marked : (after : Shared) → Marks state.shared after → (client : Client) → client_at after who ≡ Some client → client.fallen ≡ None
       → value_of state.base (live_entries after.trail) page word ≡ value_of state.base (live_entries state.shared.trail) page word
   words_marked after (Marks.stays trail up) client live is = ap (λ items. value_of state.base (live_entries items) page word) trail
@@ -126,7 +126,7 @@ module _ (state : State) (has : HasHistory state) (who page word : ℕ) (holds :
       (subst (WritersAreWith state.shared.trail page) (has.order.shaped.numbers who) ((good_standing state who has holds.0).writers page holds.1))
       (up who client live is).1
 
-  -- behind a turn of another that records
+  -- after a turn of another that records
   others_recorded : (one : ℕ) (wants : List Want) → one ≢ who → IsStanding state one
       → value_of state.base (live_entries (state.shared.trail ++ as_items (added_by (own_at state one).who (own_at state one).pending wants))) page word
       ≡ value_of state.base (live_entries state.shared.trail) page word
@@ -139,7 +139,7 @@ module _ (state : State) (has : HasHistory state) (who page word : ℕ) (holds :
       apart (writer_is_alone state one who page has.order stands
       (writes_added own.who own.held own.pending wants (good_standing state one has stands).held entry page inside writes).1 holds))
 
-  -- behind its own
+  -- after its own
   own_recorded : (wants : List Want)
       → value_of state.base (live_entries (state.shared.trail ++ as_items (added_by (own_at state who).who (own_at state who).pending wants))) page word
       ≡ value_of state.base (live_entries state.shared.trail ++ entries_by who (own_at state who).pending) page word
@@ -154,7 +154,7 @@ module _ (state : State) (has : HasHistory state) (who page word : ℕ) (holds :
   standing_up : (one : ℕ) → IsUp state.shared (own_at state one).who → IsStanding state one
   standing_up one up = (up.client, subst (λ number. client_at state.shared number ≡ Some up.client) (has.order.shaped.numbers one) up.live, up.up)
 
-  -- behind a turn whose client had fallen, or that records
+  -- after a turn whose client had fallen, or that records
   pub words_turned : {R : Type 0} (one : ℕ) (turn : Option Fallen → Turned R) → IsClient one → is_live state.shared one ≡ true
       → ((fallen : Fallen) → (turn (Some fallen)).own.who ≡ (own_at state one).who) → ((fallen : Fallen) → (turn (Some fallen)).shared.trail ≡ state.shared.trail)
       → Records state.shared (own_at state one) (turn None).shared (turn None).own

@@ -178,7 +178,7 @@ rollback_leaves base shared after lost grown left apart frozen = record {
         ∙ association_holds_its_client shared.trail lead (led lead is))
         ∙ apart lead is))
 
--- the stored image behind such a change
+-- the stored image after such a change
 pub image_left : (state : State) (after : Shared) (owns : List Own) → HasOrderlyStabilisations state → LeavesWriteOuts state.shared after
     → LeavesImages state.base state.shared after → HasStoredImage state → HasStoredImage (record state { shared = after; owns = owns })
 image_left state after owns orderly left leaves stored = record {

@@ -39,7 +39,7 @@ one_more_call (first ∷ calls) call are is =
     let parts = and_parts (is_read_or_write first.op) (list_all (λ one. is_read_or_write one.op) calls) are in
     and_from (is_read_or_write first.op) (list_all (λ one. is_read_or_write one.op) (calls ++ call ∷ [])) parts.0 (one_more_call calls call parts.1 is)
 
--- behind a step of a client whose pending calls are reads and writes then
+-- after a step of a client whose pending calls are reads and writes then
 calls_after : (state : State) (who : ℕ) (after : Shared) (own : Own) → InOrder state → IsClient who → own.who ≡ (own_at state who).who → AreCalls own.pending
     → ArePendingCalls state → ArePendingCalls (with_own (with_shared state after) own)
 calls_after state who after own order is same mine calls number = at (cases_eq number own.who)

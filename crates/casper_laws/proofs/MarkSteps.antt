@@ -90,7 +90,7 @@ noted_by_turns = record {
 pub step_noted : EachStepKeepsNotedMembers
 step_noted = step_keeps (λ one. ⊤) HasOrderlyStabilisations (λ state. NotedAreMembers state.shared) (λ one e o n known. tt) (λ one known. tt) noted_by_turns
 
--- behind a step that may take no memory
+-- after a step that may take no memory
 write_out_records : (state : State) (outside : Outside) (one : Option Stabilisation) → RecordsNoMore state.shared (write_out_step state outside one).state.shared
 write_out_records state outside None = records_nothing state.shared
 write_out_records state outside (Some one) = by_busy (busy_lead state)
@@ -158,7 +158,7 @@ marks_stay state event.Settle outside = more_by_mark _ _ (step_adds state event.
 marks_stay state (event.Vanish who) outside = more_by_mark _ _ (step_adds state (event.Vanish who) outside)
 marks_stay state (event.Lose who) outside = more_by_mark _ _ (step_adds state (event.Lose who) outside)
 
--- room that covers the marks that are due covers them behind a step
+-- room that covers the marks that are due covers them after a step
 room_covers : (may : Bool) (room : ℕ) (shared after : Shared) → MarksAreDue may shared after → mark_count shared.trail ≤ mark_count after.trail → marks_due shared ≤ room
     → marks_due after ≤ room_behind may room shared after
 room_covers true room shared after moves more covers = le-max_right room (marks_due after)

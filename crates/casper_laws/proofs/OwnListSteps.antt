@@ -82,7 +82,7 @@ passed test first second is = ap (λ one. cond one first second) is
 abbrev pub left_to : State → ℕ → Bool → List Call
 left_to state who dropped = cond dropped (calls_of state.shared.trail who) (own_list_of state who)
 
--- behind a step of one client, which drops what it has pending or does not, and where nothing of the others is recorded
+-- after a step of one client, which drops what it has pending or does not, and where nothing of the others is recorded
 acted : (state : State) (who : ℕ) (after : Shared) (own_after : Own) (dropped : Bool) → InOrder state → IsClient who → own_after.who ≡ (own_at state who).who
     → calls_of after.trail who ++ own_after.pending ≡ left_to state who dropped
     → ((number : ℕ) → number ≢ who → calls_of after.trail number ≡ calls_of state.shared.trail number)

@@ -35,7 +35,7 @@ use Rattle.casper_turns.proofs.KeptByTurns.{KeptByTurns, step_keeps, run_keeps}
 abbrev IsShort : Own → Type 0
 IsShort own = length own.pending ≤ 4096
 
--- behind a turn of a client whose pending list is short then
+-- after a turn of a client whose pending list is short then
 short_after : (state : State) (who : ℕ) (after : Shared) (own : Own) → InOrder state → IsClient who → own.who ≡ (own_at state who).who → IsShort own
     → ArePendingListsShort state → ArePendingListsShort (with_own (with_shared state after) own)
 short_after state who after own order is named short others number = by_number (cases_eq number own.who)

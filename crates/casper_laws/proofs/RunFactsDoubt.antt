@@ -86,7 +86,7 @@ record IsDoubtWritten (state : State) : Type 0 where
   unfinished : (one : Unfinished) → state.unfinished ≡ Some one → IsDoubtOf state.vault state.shared.trail one.lead
   doubtful : (one : Stabilisation) → Contains state.shared.stabilisations one → is_doubtful one.phase ≡ true → IsDoubtOf state.vault state.shared.trail one.lead
 
--- behind a turn that leaves the write-outs and the images
+-- after a turn that leaves the write-outs and the images
 doubt_left : (state : State) (after : Shared) (owns : List Own) → IsOrderly state → LeavesBoth state.base state.shared after → IsDoubtWritten state
     → IsDoubtWritten (record state { shared = after; owns = owns })
 doubt_left state after owns known both written = record {
@@ -101,7 +101,7 @@ doubt_left state after owns known both written = record {
       (sym (both.images.pages was.0.lead (inr (was.0, was.1, refl, was.2))) ∙ ap (pages_of_lead after.trail) was.3);
 }
 
--- behind a commit of a vault without a doubt, what is in doubt are its changes, and the image is as it was
+-- after a commit of a vault without a doubt, what is in doubt are its changes, and the image is as it was
 commit_doubts : (vault : VaultState) (changes : List Change) (outside : Outside) → vault.doubt ≡ None → (given : List Change)
     → (commit vault changes outside).vault.doubt ≡ Some given → (given ≡ changes) × ((commit vault changes outside).vault.image ≡ vault.image)
 commit_doubts vault [] outside none given doubted = absurd (not_some given (sym none ∙ doubted))
@@ -121,7 +121,7 @@ commit_doubts vault (change ∷ changes) outside none given doubted =
     by_refusal None is = by_outside outside is
     by_refusal (Some refusal) is = absurd (not_some given (sym none ∙ is))
 
--- behind a write-out
+-- after a write-out
 write_out_doubts : (state : State) (outside : Outside) (lead : ℕ) (one : Stabilisation) → HasOrderlyStabilisations state → HasStoredImage state
     → busy_lead state ≡ None → IsDoubtWritten (written_out state outside one None).state
 write_out_doubts state outside lead one orderly stored free = record {
@@ -161,7 +161,7 @@ write_out_doubts state outside lead one orderly stored free = record {
         ∙ sym (array_keeps_shape (length state.base) state.base (live_entries state.shared.trail) stored.shape).count)
         beyond)
 
--- what is in doubt behind a finish is so by it, and the trail is as it was
+-- what is in doubt after a finish is so by it, and the trail is as it was
 finish_doubts : (shared : Shared) (lead : ℕ) (how : Outcome) → AreFrozen shared → IsSealedBy shared lead → is_any_doubtful shared ≡ false → (x : Stabilisation)
     → Contains (finish shared lead how).shared.stabilisations x → is_doubtful x.phase ≡ true → ((finish shared lead how).shared.trail ≡ shared.trail) × (x.lead ≡ lead)
 finish_doubts shared lead how frozen seal none x inside doubtful =

@@ -41,7 +41,7 @@ good_if_up state who sound is =
 pub recording_if_up : (state : State) (who : ℕ) → HasHistory state → IsUp state.shared (own_at state who).who → MayRecord state.shared.trail (own_at state who)
 recording_if_up state who sound is = let good = good_if_up state who sound is in record { held = good.held; writers = good.writers }
 
--- behind a turn that leaves the stabilisations in order
+-- after a turn that leaves the stabilisations in order
 orderly_after : (state : State) (after : Shared) (own : Own) → HasOrderlyStabilisations state → StaysFrozen state.shared after
     → HasOrderlyStabilisations (with_own (with_shared state after) own)
 orderly_after state after own orderly stays = record {

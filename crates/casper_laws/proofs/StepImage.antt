@@ -50,7 +50,7 @@ pub record IsOrderly (state : State) : Type 0 where
   pub history : HasHistory state
   pub orderly : HasOrderlyStabilisations state
 
--- behind a rollback
+-- after a rollback
 rolled_back_images : (base : List (List ℕ)) (shared : Shared) (lost : ℕ) → AreFrozen shared → LeavesWriteOuts shared (rolled_back shared lost)
     → LeavesImages base shared (rolled_back shared lost)
 rolled_back_images base shared lost frozen left =
@@ -96,7 +96,7 @@ vanished_leaves : (base : List (List ℕ)) (shared : Shared) (own : Own) → IsC
 vanished_leaves base shared own is frozen (Some fallen) = leaves_same base shared shared refl
 vanished_leaves base shared own is frozen None = (loss_leaves base shared own.who _ is frozen).images
 
--- behind a turn of a client that records its calls
+-- after a turn of a client that records its calls
 turn_leaves : {R : Type 0} (state : State) (who : ℕ) (turn : Option Fallen → Turned R) → is_live state.shared who ≡ true → IsOrderly state
     → StaysFrozen state.shared (turn (fallen_at state.shared (own_at state who).who)).shared
     → ((fallen : Fallen) → (turn (Some fallen)).shared.trail ≡ state.shared.trail)
@@ -226,7 +226,7 @@ quiet_image vault pages limit capacity happenings shape none names quiet =
     (every_run_stored vault pages limit capacity happenings shape none names).image ∙ ap (image_due state) quiet
     ∙ ap (λ base. image_of base state.shared.trail) (base_after (start vault pages limit capacity) happenings)
 
--- and behind a write-out
+-- and after a write-out
 pub written_image : EveryWrittenImageHasItsAssociation
 written_image vault pages limit capacity happenings lead version shape none names written =
     let state = state_after (start vault pages limit capacity) happenings in

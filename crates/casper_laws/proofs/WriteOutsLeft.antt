@@ -15,7 +15,7 @@ are_doubtful shared after left is =
     let still = left.doubtful found.0.lead (found.0, found.1, refl, found.2) in
     any_of (λ (x : Stabilisation). is_doubtful x.phase) after.stabilisations still.0 still.1 still.3
 
--- what stands of the write-outs stands behind such a change
+-- what stands of the write-outs stands after such a change
 pub write_outs_left : (state : State) (after : Shared) (owns : List Own) (unfinished : Option Unfinished) → StaysFrozen state.shared after
     → AreWriteOutsInOrder state unfinished → AreWriteOutsInOrder (record state { shared = after; owns = owns }) unfinished
 write_outs_left state after owns None stays order = record {

@@ -14,7 +14,8 @@ use Rattle.casper_trail.proofs.Pages.{value_of_modified_page, image_of_other_pag
 use Rattle.casper_trail.proofs.Links.{client_at as writer_is_client, one_association_a_page}
 use Rattle.casper_trail.proofs.Rounds.{association_of_a_member, association_holds_its_client}
 use Rattle.casper_space.specs.Rising.{with_number, with_numbers, rising}
-use Rattle.casper_model.specs.Frozen.{is_modified_by, open_writes_of, pages_modified_by}
+use Rattle.casper_model.specs.Frozen.{open_writes_of, pages_modified_by}
+use Rattle.casper_trail.specs.Modified.{is_modified_by}
 use Rattle.casper_space.specs.Changes.{Change, with_changes}
 use Rattle.casper_turns.proofs.Lists.{any_found, same_any, contains_map, contains_mapped, contains_filter, contains_filtered, any_of}
 use Rattle.casper_turns.proofs.Touches.{writer_is_out}
@@ -95,7 +96,7 @@ member_rising : (numbers : List ℕ) (one : ℕ) → has_member one (rising numb
 member_rising numbers one = member_with_numbers numbers [] one ∙ or_false (has_member one numbers)
 
 -- the pages that an association modified
-modified_member : (trail : List Item) (members : List ℕ) (page : ℕ) → has_member page (pages_modified_by trail members) ≡ is_modified_by trail members page
+modified_member : (trail : List Item) (members : List ℕ) (page : ℕ) → has_member page (pages_modified_by trail members) ≡ is_modified_by members trail page
 modified_member trail members page =
     member_rising (map (λ (entry : Entry). entry.page) (open_writes_of trail members)) page
     ∙ same_any (λ number. number == page) (map (λ (entry : Entry). entry.page) (open_writes_of trail members))
@@ -120,7 +121,7 @@ modified_member trail members page =
 
 module _ (base : List (List ℕ)) (trail : List Item) (lead : ℕ) (shape : IsArray (length base) base) (clients : AreOfClients trail) where
   -- each open write of a page that the association modified is of a member
-  all_members : (page : ℕ) → is_modified_by trail (association_of trail lead) page ≡ true → (write : Entry) → Contains (open_entries trail) write
+  all_members : (page : ℕ) → is_modified_by (association_of trail lead) trail page ≡ true → (write : Entry) → Contains (open_entries trail) write
       → writes_page page write ≡ true → has_member write.who (association_of trail lead) ≡ true
   all_members page modified write inside writes =
       let found = any_found (λ (one : Entry). writes_page page one && has_member one.who (association_of trail lead)) (open_entries trail) modified in

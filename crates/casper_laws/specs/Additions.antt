@@ -46,7 +46,7 @@ grants_pages other = false
 abbrev pub turn_entries : State → ℕ → Answer → List Entry
 turn_entries state who given = cond (is_without_turn given || is_told state who given) [] (entries_by who (own_at state who).pending)
 
--- an acquire that is granted records behind them a touch of each want that was missing, in order
+-- an acquire that is granted records after them a touch of each want that was missing, in order
 abbrev pub acquire_entries : State → ℕ → List Want → Answer → List Entry
 acquire_entries state who wants given =
     turn_entries state who given ++ cond (grants_pages given) (touches_by who (missing_once_opened state.shared (own_at state who) wants)) []
@@ -108,7 +108,7 @@ items_added state (event.Depart who) given = as_items (turn_entries state who gi
 items_added state (event.Vanish who) given = vanish_marks state.shared who given
 items_added state (event.Lose who) given = lose_marks state.shared who given
 
--- the trail behind a step is the one before it and exactly that
+-- the trail after a step is the one before it and exactly that
 abbrev pub AddsExactly : State → Event → Turn → Type 0
 AddsExactly state event turn = turn.state.shared.trail ≡ state.shared.trail ++ items_added state event turn.answer
 

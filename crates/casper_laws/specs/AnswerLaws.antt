@@ -27,7 +27,7 @@ pub record HasRightsAndRoom (own : Own) (wants : List Want) (calls : ℕ) : Type
   pub rights : (want : Want) → Contains wants want → allows own.held want.page want.right ≡ true
   pub room : calls ≤ 4096 → calls ≤ room_of own
 
--- so it is behind an acquire that is granted
+-- so it is after an acquire that is granted
 abbrev pub GrantsRightsAndRoom : State → Type 0
 GrantsRightsAndRoom state =
     (who : ℕ) (wants : List Want) (calls : ℕ) (outside : Outside) → IsClient who → (acquire_step state who wants calls outside).answer ≡ answer.Granted

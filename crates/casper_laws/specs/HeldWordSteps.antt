@@ -39,9 +39,9 @@ is_turn_of who (event.Vanish one) = one == who
 is_turn_of who (event.Lose one) = false
 
 -- whether it is a write of this word by this client
-abbrev pub is_write_of : ℕ → ℕ → ℕ → Event → Bool
-is_write_of who page word (event.Write one at place value) = (one == who) && ((at == page) && (place == word))
-is_write_of who page word other = false
+abbrev pub is_write_of_word : ℕ → ℕ → ℕ → Event → Bool
+is_write_of_word who page word (event.Write one at place value) = (one == who) && ((at == page) && (place == word))
+is_write_of_word who page word other = false
 
 abbrev pub is_ok : Answer → Bool
 is_ok answer.Ok = true
@@ -55,7 +55,7 @@ OthersLeaveOwnParts state event turn = (who : ℕ) → is_turn_of who event ≡ 
 -- but for a word that the step wrote for it
 abbrev pub KeepsHeldWords : State → Event → Turn → Type 0
 KeepsHeldWords state event turn =
-    (who page word : ℕ) → (is_write_of who page word event && is_ok turn.answer) ≡ false → HoldsPage state who page → IsStanding turn.state who
+    (who page word : ℕ) → (is_write_of_word who page word event && is_ok turn.answer) ≡ false → HoldsPage state who page → IsStanding turn.state who
     → value_seen turn.state who page word ≡ value_seen state who page word
 
 -- so what others do leaves the words of the pages that it holds
@@ -64,7 +64,7 @@ OthersLeaveHeldWords state event turn =
     (who page word : ℕ) → is_turn_of who event ≡ false → HoldsPage state who page → IsStanding turn.state who
     → HoldsPage turn.state who page × (value_seen turn.state who page word ≡ value_seen state who page word)
 
--- a client that is fallen behind a step that is no turn of it sees each word as it saw it before, and if it was fallen
+-- a client that is fallen after a step that is no turn of it sees each word as it saw it before, and if it was fallen
 -- before, then by the same mark
 abbrev pub TheFallenSeeTheSame : State → Event → Turn → Type 0
 TheFallenSeeTheSame state event turn =
@@ -100,7 +100,7 @@ EveryReadIsOfWhatIsSeen = AtEveryMoment ReadsWhatIsSeen
 abbrev pub EveryWriteIsSeen : Type 0
 EveryWriteIsSeen = AtEveryMoment WritesAreSeen
 
--- neither a fall nor what others do behind it changes what a client sees, until a turn of its own tells it
+-- neither a fall nor what others do after it changes what a client sees, until a turn of its own tells it
 abbrev pub TheFallenSeeOn : Type 0
 TheFallenSeeOn =
     (vault : VaultState) (pages limit capacity : ℕ) (happenings : List Happening) → vault.doubt ≡ None → AllNameClients happenings → (event : Event) (outside : Outside)

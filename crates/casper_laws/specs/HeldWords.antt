@@ -12,15 +12,15 @@ use Rattle.casper_model.specs.Run.{Happening, state_after}
 use Rattle.casper_laws.specs.OwnLists.{IsStanding}
 use Rattle.casper_laws.specs.RunFacts.{AtEveryMoment, HoldsPage}
 
--- What a client sees in the pages that it holds. The words are those of a plain array behind a list of writes.
+-- What a client sees in the pages that it holds. The words are those of a plain array after a list of writes.
 
--- a client that is live and not fallen sees the array behind the live entries and its own pending calls
+-- a client that is live and not fallen sees the array after the live entries and its own pending calls
 abbrev pub SeesLiveAndOwn : State → Type 0
 SeesLiveAndOwn state =
     (who page word : ℕ) → IsStanding state who
     → value_seen state who page word ≡ value_of state.base (live_entries state.shared.trail ++ entries_by who (own_at state who).pending) page word
 
--- in a page that it may not write it sees the array behind the live entries alone
+-- in a page that it may not write it sees the array after the live entries alone
 abbrev pub SeesLiveWords : State → Type 0
 SeesLiveWords state =
     (who page word : ℕ) → IsStanding state who → allows (own_at state who).held page may.Write ≡ false

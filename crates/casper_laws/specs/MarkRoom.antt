@@ -45,8 +45,8 @@ EachStepRecordsMarksThatAreDue =
     (state : State) (event : Event) (outside : Outside) → NamesClients event → InOrder state → HasOrderlyStabilisations state → NotedAreMembers state.shared
     → MarksAreDue (may_take_memory event) state.shared (step state event outside).state.shared
 
--- the room for marks behind a step, where only what it must have is made. A step that may take memory makes room for
--- the marks that are due behind it, where there is less. Any other step makes none, and each mark takes one
+-- the room for marks after a step, where only what it must have is made. A step that may take memory makes room for
+-- the marks that are due after it, where there is less. Any other step makes none, and each mark takes one
 abbrev pub room_behind : Bool → ℕ → Shared → Shared → ℕ
 room_behind true room shared after = max room (marks_due after)
 room_behind false room shared after = room - (mark_count after.trail - mark_count shared.trail)
@@ -54,7 +54,7 @@ room_behind false room shared after = room - (mark_count after.trail - mark_coun
 abbrev pub room_after_step : ℕ → State → Event → Outside → ℕ
 room_after_step room state event outside = room_behind (may_take_memory event) room state.shared (step state event outside).state.shared
 
--- the room for marks behind a run
+-- the room for marks after a run
 abbrev pub mark_room_after : ℕ → State → List Happening → ℕ
 mark_room_after room state [] = room
 mark_room_after room state (first ∷ following) =

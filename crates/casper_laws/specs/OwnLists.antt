@@ -18,7 +18,7 @@ use Rattle.casper_model.specs.Run.{Happening, state_after}
 use Rattle.casper_model.specs.Rights.{InOrder, NamesClients, AllNameClients}
 use Rattle.casper_model.specs.Vault.{VaultState}
 
--- the completed calls of a client: the recorded ones, and behind them those that are pending
+-- the completed calls of a client: the recorded ones, and after them those that are pending
 abbrev pub own_list_of : State → ℕ → List Call
 own_list_of state who = own_list state.shared.trail who (own_at state who).pending
 
@@ -84,7 +84,7 @@ drops_pending state other given client = false
 abbrev pub calls_left : State → Event → Answer → ℕ → List Call
 calls_left state event given who = cond (drops_pending state event given who) (calls_of state.shared.trail who) (own_list_of state who)
 
--- each client has the calls that the step leaves it, in their order, and behind them exactly those that it completed
+-- each client has the calls that the step leaves it, in their order, and after them exactly those that it completed
 abbrev pub AddsCompletedCalls : State → Event → Turn → Type 0
 AddsCompletedCalls state event turn =
     (who : ℕ) → own_list_of turn.state who ≡ calls_left state event turn.answer who ++ completed_calls event turn.answer who

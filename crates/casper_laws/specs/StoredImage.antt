@@ -15,7 +15,7 @@ use Rattle.casper_model.specs.Rights.{NamesClients, AllNameClients}
 use Rattle.casper_model.specs.LegalHistory.{HasHistory}
 use Rattle.casper_laws.specs.FrozenLaws.{ended_in_doubt, HasOrderlyStabilisations}
 
--- the image behind a write-out of a lead that ended so: with the lead's association where it answered Ok, and the stable
+-- the image after a write-out of a lead that ended so: with the lead's association where it answered Ok, and the stable
 -- image otherwise
 abbrev pub image_by : List (List ℕ) → List Item → ℕ → Outcome → List (List ℕ)
 image_by base trail lead (outcome.Ok version) = image_with base trail lead
@@ -61,7 +61,7 @@ EveryQuietMomentHasTheStableImage =
     → (state_after (start vault pages limit capacity) happenings).vault.image
     ≡ image_of vault.image (state_after (start vault pages limit capacity) happenings).shared.trail
 
--- behind a write-out that answered Ok, and before its finish, it is the image with the association that was written
+-- after a write-out that answered Ok, and before its finish, it is the image with the association that was written
 abbrev pub EveryWrittenImageHasItsAssociation : Type 0
 EveryWrittenImageHasItsAssociation =
     (vault : VaultState) (pages limit capacity : ℕ) (happenings : List Happening) (lead version : ℕ) → IsArray pages vault.image → vault.doubt ≡ None

@@ -33,8 +33,8 @@ pub fn law_of_stabilisations()
     ensures silent { EveryRunKeepsHeldAssociationsSilent }
 {}
 
-/// At every moment of every run at which no write-out is unfinished the vault's image is the stable image. Behind a
-/// write-out that answered Ok and before its finish it is the stable image with the association of its lead; behind
+/// At every moment of every run at which no write-out is unfinished the vault's image is the stable image. After a
+/// write-out that answered Ok and before its finish it is the stable image with the association of its lead; after
 /// one that failed it is the stable image. Where a write-out ended in doubt the vault settles to the image with the
 /// association. It does nothing.
 pub fn law_of_images()
@@ -56,7 +56,7 @@ pub fn law_of_mark_room()
     ensures mark { EveryMarkHasItsRoom }
 {}
 
-/// In each step of every run each client keeps all its recorded and pending calls, in their order, and behind them stand
+/// In each step of every run each client keeps all its recorded and pending calls, in their order, and after them stand
 /// exactly the calls that the step completed for it: a read that was answered a value, with this value, or a write that
 /// was answered Ok. Only a client that was fallen and is told so, and one that vanishes, loses calls then, and exactly
 /// those that were pending. So the calls of a client to which neither happened are exactly those that the run completed
@@ -74,7 +74,7 @@ pub fn law_of_own_lists()
 {}
 
 /// What each step of every run adds to the trail, exactly, by its event and its answer. A turn of a client records its
-/// pending calls, in their order. An acquire that is granted, also where a read or a write made it, records behind them a
+/// pending calls, in their order. An acquire that is granted, also where a read or a write made it, records after them a
 /// touch of each page that was missing, in order. A client that is told of its fall records nothing, and nor does a call
 /// that is a hit. A finish or a settle that makes an association stable adds its commit mark, and a loss that is carried
 /// out the rollback mark of the association of the client that was lost. Nothing else is added. It does nothing.
@@ -85,7 +85,7 @@ pub fn law_of_additions()
 
 /// In each step of every run the answer is one of those that its event may have. That a client is absent is answered
 /// exactly where one that has to be live is not, that a page or a word is out of range exactly where it is past the
-/// store's and the client is not absent, and that a client has joined before exactly where one that joins is live. Behind
+/// store's and the client is not absent, and that a client has joined before exactly where one that joins is live. After
 /// an acquire that is granted its client holds each page that it wanted with the right that it wanted, and has room for
 /// the calls that it asked for, up to 4,096. So a read or a write whose page is granted is made: its answer is never that
 /// the page is granted. What is kept for a client is a commit or how a write-out failed, never a doubt. It does nothing.
@@ -99,7 +99,7 @@ pub fn law_of_answers()
     ensures kept { EveryKeptOutcomeIsOver }
 {}
 
-/// Behind a serve a client that is not fallen holds no page that another client asks to write, and may write no page
+/// After a serve a client that is not fallen holds no page that another client asks to write, and may write no page
 /// that another asks for. It does nothing.
 pub fn law_of_recalls()
     ensures step { EachServeMeetsTheAsks }
@@ -124,8 +124,8 @@ pub fn law_of_notes_and_doubts()
     ensures doubt { EveryDoubtIsOfOneLead }
 {}
 
-/// At every moment of every run a client that is live and not fallen sees the array that the session found behind the
-/// live entries and its own pending calls, and in a page that it may not write behind the live entries alone. A page
+/// At every moment of every run a client that is live and not fallen sees the array that the session found after the
+/// live entries and its own pending calls, and in a page that it may not write after the live entries alone. A page
 /// on which a client has a write pending is held by no other, and all that hold a page see the same words in it. It
 /// does nothing.
 pub fn law_of_held_words()
@@ -139,7 +139,7 @@ pub fn law_of_held_words()
 /// In each step of every run what others do leaves a client the pages that it holds and its pending calls, and while it
 /// is live and not fallen also each word that it sees in those pages. Its own turns leave these words too, but for the
 /// one that it writes: a write that is answered Ok is seen, and a read that is answered a value gives the one that is
-/// seen. Neither its fall nor what others do behind it changes what a client sees, until it is told. It does nothing.
+/// seen. Neither its fall nor what others do after it changes what a client sees, until it is told. It does nothing.
 pub fn law_of_held_words_in_steps()
     ensures parts { OthersLeaveEachOwnPart }
     ensures step { EveryStepKeepsHeldWords }
@@ -152,10 +152,10 @@ pub fn law_of_held_words_in_steps()
 /// At every moment of every run, for every order of events and whatever the outside does, the completed reads and
 /// writes that no rollback dropped, and then the pending calls, are one legal history of a plain array of pages. Each
 /// step adds to the trail at its end alone, and exactly what its event and its answer say. Each client's calls stand in
-/// the order in which they were answered: a step adds behind them exactly the call that it completes, and only a client
+/// the order in which they were answered: a step adds after them exactly the call that it completes, and only a client
 /// that was fallen and is told so, or that vanishes, loses what it had pending. Of a client that has left, all are
 /// recorded. What is stable is a causally closed part, and a mark names exactly the association of its lead. The vault's
-/// image is that part's, and behind a write-out that answered Ok that part's with the association of the lead. It does
+/// image is that part's, and after a write-out that answered Ok that part's with the association of the lead. It does
 /// nothing.
 pub fn law_of_one_history()
     ensures trail { EveryRunIsLegal }

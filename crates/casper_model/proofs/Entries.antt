@@ -95,7 +95,7 @@ filter_none test (x ∷ xs) fails =
     cond-false (test x) (x ∷ filter test xs) (filter test xs) (fails x (zero, omega arith, refl))
     ∙ filter_none test xs (λ one inside. fails one (contains_there x xs one inside))
 
--- calls that are right stay right behind entries that write none of their pages
+-- calls that are right stay right after entries that write none of their pages
 pub right_behind : (base : List (List ℕ)) (before between entries : List Entry)
     → ((write entry : Entry) → Contains between write → Contains entries entry → writes_page entry.page write ≡ true → ⊥)
     → AreRightAfter base before entries → AreRightAfter base (before ++ between) entries
@@ -122,7 +122,7 @@ association_with_more items more client is who found =
     closed : IsClosedUnderLinks items (λ one. has_member one (association_of (items ++ as_items more) client))
     closed one other is_one is_other links = association_closed (items ++ as_items more) client is one other is_one is_other (linked one other links)
 
--- the open writes of a page are still of the association behind entries whose writes of it are
+-- the open writes of a page are still of the association after entries whose writes of it are
 pub writers_with_more : (items : List Item) (more : List Entry) (page client : ℕ) → IsClient client → WritersAreWith items page client
     → ((entry : Entry) → Contains more entry → writes_page page entry ≡ true → has_member entry.who (association_of (items ++ as_items more) client) ≡ true)
     → WritersAreWith (items ++ as_items more) page client

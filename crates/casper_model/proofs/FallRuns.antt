@@ -23,7 +23,7 @@ use Rattle.casper_model.specs.Stabilisation.{Stabilisation, is_gathering}
 use Rattle.casper_model.specs.Shared.{Shared, client_at, fallen_at, of_client}
 use Rattle.casper_model.specs.Own.{Own}
 use Rattle.casper_model.specs.Both.{Changed}
-use Rattle.casper_model.specs.Frozen.{stabilisation_of, members_of as members_in}
+use Rattle.casper_model.specs.Frozen.{stabilisation_of, members_of_stabilisation as members_in}
 use Rattle.casper_model.specs.Acquire.{touches_by}
 use Rattle.casper_model.specs.Loss.{lose, lose_by, lost_in, rolled_back, fallen_behind, dropped_of}
 use Rattle.casper_model.specs.Leave.{vanished_by}
@@ -97,7 +97,7 @@ fallen_by_mark trail lost members number fallen place member = record {
   named = member;
 }
 
--- behind a turn that keeps the others
+-- after a turn that keeps the others
 pub marked_kept : (shared : Shared) (own : Own) (after : Shared) (own_after : Own) → TurnKeeps shared own after own_after
     → ((number : ℕ) (fallen : Fallen) → number ≢ own.who → HasFallen shared.trail number fallen → HasFallen after.trail number fallen)
     → EachFallenIsMarked shared → EachFallenIsMarked after
@@ -113,7 +113,7 @@ pub fallen_recorded : (shared : Shared) (own : Own) (after : Shared) (own_after 
 fallen_recorded shared own after own_after records number fallen apart has =
     subst (λ trail. HasFallen trail number fallen) (sym records.trail) (fallen_with_turn shared.trail own.who own.pending records.wants number fallen apart has)
 
--- behind what is no turn of a client
+-- after what is no turn of a client
 marked_rolled_back : (shared : Shared) (lost : ℕ) → EachFallenIsMarked shared → EachFallenIsMarked (rolled_back shared lost)
 marked_rolled_back shared lost marked number client fallen live fell = by_member (has_member number members) refl found.2
   where

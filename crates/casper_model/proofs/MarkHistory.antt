@@ -65,7 +65,7 @@ outside_apart items mark exact client who outside found =
     let is = members_are items mark exact in
     ap (has_member who) is ∙ members_together items (head_of mark) who client found ∙ ap (has_member client) (sym is) ∙ outside
 
--- the open writes of a page behind a mark are of the client's association still
+-- the open writes of a page after a mark are of the client's association still
 writers_after_mark : (items : List Item) (mark : Mark) → IsExactMark items mark → (page client : ℕ) → WritersAreWith items page client
     → WritersAreWith (items ++ item.Mark mark ∷ []) page client
 writers_after_mark items mark exact page client before write inside writes = by_member (cases_Bool (has_member client (members_of mark)))

@@ -14,7 +14,7 @@ use Rattle.casper_model.specs.Stabilisation.{Stabilisation, is_gathering}
 use Rattle.casper_model.specs.Shared.{Shared, client_at, fallen_at}
 use Rattle.casper_model.specs.Own.{Own}
 use Rattle.casper_model.specs.Both.{Changed}
-use Rattle.casper_model.specs.Frozen.{stabilisation_of, members_of}
+use Rattle.casper_model.specs.Frozen.{stabilisation_of, members_of_stabilisation}
 use Rattle.casper_model.specs.Loss.{lose, lose_by, lost_in, rolled_back, fallen_behind}
 use Rattle.casper_model.specs.Leave.{vanished_by}
 use Rattle.casper_model.specs.Finish.{finish, finished_by, finished_as, failed, ended, committed, settled, settled_by, stabilisation_led_by, doubtful_of}
@@ -31,7 +31,7 @@ same_or_kept : (asker : Bool) (kept : Kept) (before after : Client) → cond ask
 same_or_kept true kept before after same up = ap (λ (one : Client). one.fallen) same ∙ up
 same_or_kept false kept before after same up = ap (λ (one : Client). one.fallen) same ∙ up
 
--- a client behind a change of each
+-- a client after a change of each
 pub changed_from : (change : Client → Client) (place : Option Client) (after : Client) → option_map change place ≡ Some after
     → (before : Client) × (place ≡ Some before) × (change before ≡ after)
 changed_from change None after same = absurd (true≢false (sym (ap is_some same)))
@@ -62,7 +62,7 @@ marks_ended : (shared : Shared) (one : Stabilisation) (kept : Kept) → Marks sh
 marks_ended shared one kept = Marks.stays refl (was_up_ended shared one kept)
 
 marks_committed : (shared : Shared) (one : Stabilisation) → Marks shared (committed shared one).shared
-marks_committed shared one = Marks.commits one.lead (members_of shared one) refl refl (was_up_ended shared one _)
+marks_committed shared one = Marks.commits one.lead (members_of_stabilisation shared one) refl refl (was_up_ended shared one _)
 
 marks_lost : (shared : Shared) (who unrecorded : ℕ) (one : Option Stabilisation) → Marks shared (lost_in shared who unrecorded one).shared
 marks_lost shared who unrecorded None = marks_rolled_back shared who

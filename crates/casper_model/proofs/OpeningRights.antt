@@ -38,7 +38,7 @@ up_changed who change shared stays is = record {
   up = stays is.client is.up;
 }
 
--- the two parts agree behind each part of a turn
+-- the two parts agree after each part of a turn
 pub known_agreed : (shared : Shared) (own : Own) → IsUp shared own.who → IsKnown (agreed shared own).shared own
 known_agreed shared own is =
     let change : Client → Client = λ client. record client { cap = own.cap; rights = own.held } in

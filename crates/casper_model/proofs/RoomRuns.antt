@@ -19,7 +19,7 @@ use Rattle.casper_model.specs.Shared.{Shared, client_at, fallen_at, is_live}
 use Rattle.casper_model.specs.Own.{Own, blank, room_of}
 use Rattle.casper_model.specs.Both.{Turned}
 use Rattle.casper_model.specs.Room.{most_cap, free_room}
-use Rattle.casper_model.specs.Opening.{told}
+use Rattle.casper_model.specs.Opening.{told_of_fall}
 use Rattle.casper_model.specs.Acquire.{acquired_by}
 use Rattle.casper_model.specs.Stabilise.{stabilised_by}
 use Rattle.casper_model.specs.Join.{joined_by}
@@ -47,7 +47,7 @@ use Rattle.casper_model.proofs.RunHistory.{guarded_history}
 use Rattle.casper_model.proofs.Caps.{IsRoomy}
 use Rattle.casper_model.proofs.RoomSteps.{acquired_within, served_within, stabilise_within, departed_within, told_within, joined_within, lose_within, vanish_within, finish_within, settled_within}
 
--- a state behind an event of a client
+-- a state after an event of a client
 room_after : (state : State) (own : Own) (after : Shared) → own.who < length state.owns → IsWithin after → length own.pending ≤ own.cap → HasRoom state
     → HasRoom (with_own (with_shared state after) own)
 room_after state own after below is pending room = record { within = is; pending = λ number. at number (cases_eq number own.who) }
@@ -79,8 +79,8 @@ roomy_at state who order room live up =
 
 -- a turn whose client had fallen, or records
 room_turn : {R : Type 0} (state : State) (who : ℕ) (turn : Option Fallen → Turned R) → InOrder state → HasRoom state → IsClient who → is_live state.shared who ≡ true
-    → ((fallen : Fallen) → (turn (Some fallen)).shared ≡ (told state.shared (own_at state who)).shared)
-    → ((fallen : Fallen) → (turn (Some fallen)).own ≡ (told state.shared (own_at state who)).own)
+    → ((fallen : Fallen) → (turn (Some fallen)).shared ≡ (told_of_fall state.shared (own_at state who)).shared)
+    → ((fallen : Fallen) → (turn (Some fallen)).own ≡ (told_of_fall state.shared (own_at state who)).own)
     → Records state.shared (own_at state who) (turn None).shared (turn None).own
     → (IsRoomy state.shared (own_at state who) → length (own_at state who).pending ≤ (own_at state who).cap → IsWithin (turn None).shared)
     → (fallen : Option Fallen) → fallen_at state.shared (own_at state who).who ≡ fallen → HasRoom (after_turn state (turn fallen))

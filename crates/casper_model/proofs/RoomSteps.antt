@@ -27,7 +27,7 @@ use Rattle.casper_model.specs.Own.{Own}
 use Rattle.casper_model.specs.Both.{Both, Changed, Turned}
 use Rattle.casper_model.specs.Room.{most_cap, all_caps, free_room}
 use Rattle.casper_model.specs.Frozen.{stabilisation_of}
-use Rattle.casper_model.specs.Opening.{told, opened, handed_in, given_in_opening}
+use Rattle.casper_model.specs.Opening.{told_of_fall, opened, handed_in, given_in_opening}
 use Rattle.casper_model.specs.Acquire.{acquired_by, answered, granted, with_asks, refused_missing, refused_full, touches_by}
 use Rattle.casper_model.specs.Stabilise.{stabilised_by, stabilised, stabilised_in, kept_at}
 use Rattle.casper_model.specs.Join.{joined_by}
@@ -114,9 +114,9 @@ departed_within shared own roomy pending =
     let after = opened_roomy shared own roomy pending in
     absent_within (opened shared own).shared (opened shared own).own after.below after.within
 
-pub told_within : (shared : Shared) (own : Own) → IsWithin shared → IsWithin (told shared own).shared
+pub told_within : (shared : Shared) (own : Own) → IsWithin shared → IsWithin (told_of_fall shared own).shared
 told_within shared own within =
-    let same : all_caps (told shared own).shared ≡ all_caps shared = caps_same own.who (λ client. record client { kept = None; fallen = None }) (λ client. refl) shared in
+    let same : all_caps (told_of_fall shared own).shared ≡ all_caps shared = caps_same own.who (λ client. record client { kept = None; fallen = None }) (λ client. refl) shared in
     omega (arith, same, within)
 
 -- a client that joins

@@ -87,7 +87,7 @@ module _ (state : State) (own : Own) (after : Shared) (below : own.who < length 
   pub other_own : (number : ℕ) → number ≢ own.who → own_at (with_own (with_shared state after) own) number ≡ own_at state number
   other_own number apart = get_or-set_other state.owns own.who number own (blank number 0) apart
 
--- each client is good behind a turn of one, where that one is and the others stay good
+-- each client is good after a turn of one, where that one is and the others stay good
 pub history_after : (state : State) (own : Own) (after : Shared) → own.who < length state.owns → IsLegal state.base after.trail
     → IsGood state.base after.trail (client_at after own.who) own
     → ((number : ℕ) → number ≢ own.who → IsGood state.base after.trail (client_at after number) (own_at state number))
@@ -106,7 +106,7 @@ pub in_owns : (state : State) (who : ℕ) (own : Own) → InOrder state → IsCl
 in_owns state who own order is same =
     subst (λ number. number < length state.owns) (sym (same ∙ order.shaped.numbers who)) (subst (λ count. who < count) (sym order.shaped.owns) (omega (arith, is.1)))
 
--- behind a turn that records
+-- after a turn that records
 pub history_recorded : (state : State) (who : ℕ) (after : Shared) (own_after : Own) → InOrder state → AreOfClients state.shared.trail → HasLegalHistory state → IsClient who
     → IsUp state.shared (own_at state who).who
     → ((number : ℕ) → number ≢ (own_at state who).who → client_at after number ≡ client_at state.shared number)
@@ -158,7 +158,7 @@ history_recorded state who after own_after order clients history is up others re
         by_fallen None is_up good_one = subst (λ trail. IsGoodNow state.base trail (own_at state number)) (sym records.trail) (still number away client e is_up good_one)
         by_fallen (Some fallen) fell good_one = tt
 
--- behind a turn that leaves its client with nothing, and the trail as it was
+-- after a turn that leaves its client with nothing, and the trail as it was
 pub history_emptied : (state : State) (who : ℕ) (after : Shared) (own_after : Own) → InOrder state → HasLegalHistory state → IsClient who
     → own_after.who ≡ (own_at state who).who → own_after.pending ≡ [] → own_after.held ≡ [] → after.trail ≡ state.shared.trail
     → ((number : ℕ) → number ≢ (own_at state who).who → client_at after number ≡ client_at state.shared number)
@@ -174,7 +174,7 @@ history_emptied state who after own_after order history is who_is pending held t
 abbrev pub WasUp : Shared → ℕ → Type 0
 WasUp shared who = (client : Client) × (client_at shared who ≡ Some client) × (client.fallen ≡ None)
 
--- what is no turn of a client leaves the trail, or records an exact mark. Who is not fallen behind it was not before, and a
+-- what is no turn of a client leaves the trail, or records an exact mark. Who is not fallen after it was not before, and a
 -- rollback names none of them
 pub data Marks (shared after : Shared) : Type 0 where
   stays : after.trail ≡ shared.trail → ((who : ℕ) (client : Client) → client_at after who ≡ Some client → client.fallen ≡ None → WasUp shared who) → Marks shared after
@@ -183,7 +183,7 @@ pub data Marks (shared after : Shared) : Type 0 where
   rolls_back : (mark : Mark) → IsExactMark shared.trail mark → after.trail ≡ shared.trail ++ item.Mark mark ∷ []
       → ((who : ℕ) (client : Client) → client_at after who ≡ Some client → client.fallen ≡ None → WasUp shared who × (has_member who (members_of mark) ≡ false)) → Marks shared after
 
--- each client is good behind it, where those that are not fallen are
+-- each client is good after it, where those that are not fallen are
 history_by : (state : State) (after : Shared) → IsLegal state.base after.trail
     → ((who : ℕ) (client : Client) → client_at after who ≡ Some client → client.fallen ≡ None → IsGoodNow state.base after.trail (own_at state who))
     → HasLegalHistory (with_shared state after)

@@ -33,7 +33,7 @@ use Rattle.casper_model.specs.WriteOutStep.{job_of, busy_lead, written_out, writ
 use Rattle.casper_model.specs.Growth.{AddsOwn, AddsMark, EachStepExtendsTheTrail}
 use Rattle.casper_model.proofs.Additions.{acquire_adds, serve_adds, stabilise_adds, depart_adds}
 
--- what holds of the trail before a step and of the trail behind it holds behind a step that a test guards
+-- what holds of the trail before a step and of the trail after it holds after a step that a test guards
 guarded_trail : (P : List Item → Type 0) (test : Bool) (refusal : Answer) (state : State) (turn : State → Turn)
     → P state.shared.trail → P (turn state).state.shared.trail → P (guarded test refusal state turn).state.shared.trail
 guarded_trail P true refusal state turn stays moves = moves
@@ -44,7 +44,7 @@ shared_hit : (turn : Turn) (answer : Answer) (own : Option Own) → (unwrap_or (
 shared_hit turn answer None = refl
 shared_hit turn answer (Some own) = refl
 
--- an acquire and the hit behind it add what the acquire added
+-- an acquire and the hit after it add what the acquire added
 trail_behind : (P : List Item → Type 0) (answer : State → Answer) (own : State → Option Own) (turn : Turn) (granted : Bool)
     → P turn.state.shared.trail → P (hit_behind (λ after. hit_turn after (answer after) (own after)) turn granted).state.shared.trail
 trail_behind P answer own turn true holds =

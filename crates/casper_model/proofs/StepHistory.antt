@@ -22,7 +22,7 @@ use Rattle.casper_model.specs.Client.{Client, Fallen}
 use Rattle.casper_model.specs.Shared.{Shared, client_at, fallen_at, of_client, is_live}
 use Rattle.casper_model.specs.Own.{Own, room_of}
 use Rattle.casper_model.specs.Both.{Turned}
-use Rattle.casper_model.specs.Opening.{told}
+use Rattle.casper_model.specs.Opening.{told_of_fall}
 use Rattle.casper_model.specs.Hits.{can_hit, with_call}
 use Rattle.casper_model.specs.Outside.{Outside}
 use Rattle.casper_model.specs.State.{State, own_at, with_own, after_turn}
@@ -39,8 +39,8 @@ use Rattle.casper_model.proofs.StateHistory.{history_after, in_owns, history_rec
 
 -- a turn whose client had fallen, or records
 pub history_turn : {R : Type 0} (state : State) (who : ℕ) (turn : Option Fallen → Turned R) → HasHistory state → IsClient who → (live : is_live state.shared who ≡ true)
-    → ((fallen : Fallen) → (turn (Some fallen)).shared ≡ (told state.shared (own_at state who)).shared)
-    → ((fallen : Fallen) → (turn (Some fallen)).own ≡ (told state.shared (own_at state who)).own)
+    → ((fallen : Fallen) → (turn (Some fallen)).shared ≡ (told_of_fall state.shared (own_at state who)).shared)
+    → ((fallen : Fallen) → (turn (Some fallen)).own ≡ (told_of_fall state.shared (own_at state who)).own)
     → (fallen_at state.shared (own_at state who).who ≡ None → (number : ℕ) → number ≢ (own_at state who).who → client_at (turn None).shared number ≡ client_at state.shared number)
     → Records state.shared (own_at state who) (turn None).shared (turn None).own
     → (fallen : Option Fallen) → fallen_at state.shared (own_at state who).who ≡ fallen → HasLegalHistory (after_turn state (turn fallen))
@@ -121,7 +121,7 @@ history_call state who act page word value has is can seen = record {
             (ap (λ front. front ++ entries_by own.who own.pending) (seen_up state.shared (fallen_at state.shared own.who) none)) seen)
         by_fallen (Some fallen) fell good_one = tt
 
--- a call by a hit, or by an acquire and the hit behind it
+-- a call by a hit, or by an acquire and the hit after it
 abbrev pub hits : ℕ → Op → ℕ → ℕ → (State → Answer) → (State → ℕ) → State → Option Turn
 hits who act page word answer value after =
     hit_turn after (answer after) (cond (can_hit (own_at after who) page (right_for act)) (Some (with_call (own_at after who) act page word (value after))) None)

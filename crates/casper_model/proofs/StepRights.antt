@@ -170,7 +170,7 @@ ordered_hit : (turn : Turn) (answer : Answer) (who : ℕ) (act : Op) (page word 
 ordered_hit turn answer who act page word value right order client true e = ordered_call turn.state who act page word value right order client e
 ordered_hit turn answer who act page word value right order client false e = order
 
--- a call by a hit, or by an acquire and the hit behind it
+-- a call by a hit, or by an acquire and the hit after it
 abbrev pub hit_by : ℕ → Op → ℕ → ℕ → Right → (State → Answer) → (State → ℕ) → State → Option Turn
 hit_by who act page word right answer value after =
     hit_turn after (answer after) (cond (can_hit (own_at after who) page right) (Some (with_call (own_at after who) act page word (value after))) None)

@@ -73,7 +73,7 @@ good_other base trail own other wants is acting apart good = record {
     added : List Entry
     added = added_by own.who own.pending wants
 
--- calls and touches stand one behind the other
+-- calls and touches stand one after the other
 added_split : (trail : List Item) (who : ℕ) (calls : List Call) (wants : List Want)
     → trail ++ as_items (added_by who calls wants) ≡ trail ++ as_items (entries_by who calls) ++ as_items (touches_by who wants)
 added_split trail who calls wants =

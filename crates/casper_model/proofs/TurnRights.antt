@@ -6,7 +6,7 @@ use Rattle.casper_model.specs.Held.{allows}
 use Rattle.casper_model.specs.Client.{Client, Fallen}
 use Rattle.casper_model.specs.Shared.{Shared, client_at, rights_at, fallen_at, of_client}
 use Rattle.casper_model.specs.Own.{Own}
-use Rattle.casper_model.specs.Opening.{told, opened}
+use Rattle.casper_model.specs.Opening.{told_of_fall, opened}
 use Rattle.casper_model.specs.Leave.{serve, served_by}
 use Rattle.casper_model.specs.Rights.{AllowTheSame, Agrees, AgreesUnlessFallen, TurnStands, TurnKeeps}
 use Rattle.casper_model.proofs.Places.{client_changed, client_unchanged}
@@ -53,7 +53,7 @@ rights_known shared own known = rights_of_live shared own.who known.client known
 rights_unchanged : (before after : Shared) (who : ℕ) → client_at after who ≡ client_at before who → rights_at after who ≡ rights_at before who
 rights_unchanged before after who same = ap (of_client [] (λ client. client.rights)) same
 
--- a turn keeps the rights in order where the acting client may do no more behind it
+-- a turn keeps the rights in order where the acting client may do no more after it
 pub keeps_with_less : (shared : Shared) (own : Own) (after : Shared) (own_after : Own) → TurnStands shared own → IsUp shared own.who → own_after.who ≡ own.who
     → length after.clients ≡ length shared.clients → ((number : ℕ) → number ≢ own.who → client_at after number ≡ client_at shared number)
     → IsKnown after own_after → AllowsNoMore own_after.held own.held → TurnKeeps shared own after own_after
@@ -80,20 +80,20 @@ keeps_with_less shared own after own_after stands is who places others known les
 
 -- a client that is told that it fell
 pub keeps_told : (shared : Shared) (own : Own) (fallen : Fallen) → TurnStands shared own → fallen_at shared own.who ≡ Some fallen
-    → TurnKeeps shared own (told shared own).shared (told shared own).own
+    → TurnKeeps shared own (told_of_fall shared own).shared (told_of_fall shared own).own
 keeps_told shared own fallen stands fell = record {
   who = refl;
   places = places_changed own.who change shared ∙ stands.places;
   others = λ number apart. client_unchanged own.who change shared number apart;
-  agrees = subst (λ place. Agrees place (told shared own).own) (sym here) (had.0, λ page right. ap (λ rights. allows rights page right) had.1);
+  agrees = subst (λ place. Agrees place (told_of_fall shared own).own) (sym here) (had.0, λ page right. ap (λ rights. allows rights page right) had.1);
   up = ap (of_client None (λ client. client.fallen)) here;
-  exclusive = exclusive_with_less shared (told shared own).shared allowed stands.exclusive;
+  exclusive = exclusive_with_less shared (told_of_fall shared own).shared allowed stands.exclusive;
 }
   where
     change : Client → Client
     change client = record client { kept = None; fallen = None }
 
-    here : client_at (told shared own).shared own.who ≡ Some (change stands.client)
+    here : client_at (told_of_fall shared own).shared own.who ≡ Some (change stands.client)
     here = client_changed own.who change shared ∙ ap (option_map change) stands.live
 
     is_fallen : stands.client.fallen ≡ Some fallen
@@ -102,16 +102,16 @@ keeps_told shared own fallen stands fell = record {
     had : (stands.client.cap ≡ own.cap) × (stands.client.rights ≡ []) × (stands.client.asks ≡ [])
     had = subst (AgreesUnlessFallen stands.client own) is_fallen (subst (λ place. Agrees place own) stands.live stands.agrees)
 
-    same_rights : (number : ℕ) → (number ≡ own.who) ⊎ (number ≢ own.who) → rights_at (told shared own).shared number ≡ rights_at shared number
+    same_rights : (number : ℕ) → (number ≡ own.who) ⊎ (number ≢ own.who) → rights_at (told_of_fall shared own).shared number ≡ rights_at shared number
     same_rights number (inl same) =
-        subst (λ one. rights_at (told shared own).shared one ≡ rights_at shared one) (sym same)
-        (rights_of_live (told shared own).shared own.who (change stands.client) here ∙ sym (rights_of_live shared own.who stands.client stands.live))
-    same_rights number (inr apart) = rights_unchanged shared (told shared own).shared number (client_unchanged own.who change shared number apart)
+        subst (λ one. rights_at (told_of_fall shared own).shared one ≡ rights_at shared one) (sym same)
+        (rights_of_live (told_of_fall shared own).shared own.who (change stands.client) here ∙ sym (rights_of_live shared own.who stands.client stands.live))
+    same_rights number (inr apart) = rights_unchanged shared (told_of_fall shared own).shared number (client_unchanged own.who change shared number apart)
 
-    allowed : (number : ℕ) → AllowsNoMore (rights_at (told shared own).shared number) (rights_at shared number)
+    allowed : (number : ℕ) → AllowsNoMore (rights_at (told_of_fall shared own).shared number) (rights_at shared number)
     allowed number page right found = sym (ap (λ rights. allows rights page right) (same_rights number (cases_eq number own.who))) ∙ found
 
--- the order of rights behind an opening, and what stands for the rest of the turn
+-- the order of rights after an opening, and what stands for the rest of the turn
 pub keeps_opened : (shared : Shared) (own : Own) → TurnStands shared own → IsUp shared own.who
     → TurnKeeps shared own (opened shared own).shared (opened shared own).own
 keeps_opened shared own stands is =

@@ -16,7 +16,7 @@ use Rattle.casper_model.specs.Shared.{Shared, rights_at, fallen_at, change_clien
 use Rattle.casper_model.specs.Own.{Own}
 use Rattle.casper_model.specs.Both.{Both, Turned, turned, agreed}
 use Rattle.casper_model.specs.Frozen.{is_member, is_modified_in}
-use Rattle.casper_model.specs.Opening.{asks_for, any_right, told, opened, given_in_opening}
+use Rattle.casper_model.specs.Opening.{asks_for, any_right, told_of_fall, opened, given_in_opening}
 
 -- whether nothing is missing
 abbrev pub none_missing : List Want → Bool
@@ -112,7 +112,7 @@ acquired both given wants calls =
     answered both given wants missing (option_or (refused_missing both.shared both.own.who given missing) (refused_full both missing calls))
 
 abbrev pub acquired_by : Shared → Own → List Want → ℕ → Option Fallen → Turned Reply
-acquired_by shared own wants calls (Some fallen) = turned (RolledBack fallen.mark fallen.dropped (length own.pending)) (told shared own)
+acquired_by shared own wants calls (Some fallen) = turned (RolledBack fallen.mark fallen.dropped (length own.pending)) (told_of_fall shared own)
 acquired_by shared own wants calls None = acquired (opened shared own) (given_in_opening shared own) wants calls
 
 -- a turn in which a client wants pages, and room for so many calls

@@ -10,7 +10,7 @@ use Rattle.casper_model.specs.Own.{Own}
 use Rattle.casper_model.specs.Hits.{hit_read, hit_write}
 use Rattle.casper_model.specs.Run.{state_after}
 use Rattle.casper_model.specs.State.{zero_start}
-use Rattle.casper_model.specs.Row.{Gives, GivesQuietly, quiet, usual}
+use Rattle.casper_model.specs.Row.{RunGives, GivesQuietly, quiet, usual}
 
 -- room for 4,103 entries: what one client is promised leaves three for the other, until the first departs
 abbrev pub ToppedUp : Type 0
@@ -51,7 +51,7 @@ TrailOfUpgrade =
 -- a load that failed leaves the whole turn undone: the write is not recorded
 abbrev pub FailedLoad : Type 0
 FailedLoad =
-    Gives usual
+    RunGives usual
     (map quiet (Join 1 ∷ Write 1 0 0 5 ∷ []) ++ record { event = Read 1 1 0; outside = LoadFailed } ∷ map quiet (Vanish 1 ∷ []))
     (Joined ∷ Ok ∷ Disk ∷ VanishLost 1 1 ∷ [])
     (record { commits = 0; rollbacks = 1; version = 1 })

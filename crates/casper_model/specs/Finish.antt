@@ -11,7 +11,7 @@ use Rattle.casper_model.specs.declared.outcome.Finished.TheVariants as finished
 use Rattle.casper_model.specs.Stabilisation.{Stabilisation, Doubtful, is_doubtful}
 use Rattle.casper_model.specs.Shared.{Shared, each_client, change_stabilisation}
 use Rattle.casper_model.specs.Both.{Changed}
-use Rattle.casper_model.specs.Frozen.{members_of}
+use Rattle.casper_model.specs.Frozen.{members_of_stabilisation}
 use Rattle.casper_model.specs.Loss.{rolled_back}
 
 -- a stabilisation over: the outcome is kept for each client that waits for it
@@ -27,7 +27,7 @@ committed shared one =
     let after = ended shared one (kept.Committed place) in
     record {
       reply = place;
-      shared = record after { trail = shared.trail ++ item.Mark (Commit one.lead (members_of shared one)) ∷ [] };
+      shared = record after { trail = shared.trail ++ item.Mark (Commit one.lead (members_of_stabilisation shared one)) ∷ [] };
     }
 
 -- a write-out that failed: the association is no longer frozen. Where a loss was noted, it is carried out
@@ -66,6 +66,6 @@ abbrev pub settled_by : Shared → Option Stabilisation → Changed (Option ℕ)
 settled_by shared None = record { reply = None; shared = shared }
 settled_by shared (Some one) = let done = committed shared one in record { reply = Some done.reply; shared = done.shared }
 
--- the turn behind a vault that has settled: the stabilisation in doubt is made stable
+-- the turn after a vault that has settled: the stabilisation in doubt is made stable
 abbrev pub settled : Shared → Changed (Option ℕ)
 settled shared = settled_by shared (doubtful_of shared)

@@ -1,9 +1,9 @@
 use Rattle.std.specs.Prelude.{ℕ, List, Bool, ◌&&◌, find, filter, map, Option}
-use Rattle.std.specs.List.{list_any}
 use Rattle.casper_words.specs.Crew.{has_member}
 use Rattle.casper_trail.specs.declared.entry.Entry.{Entry}
 use Rattle.casper_trail.specs.declared.item.Item.{Item}
-use Rattle.casper_trail.specs.Value.{is_write, writes_page}
+use Rattle.casper_trail.specs.Value.{is_write}
+use Rattle.casper_trail.specs.Modified.{is_modified_by}
 use Rattle.casper_trail.specs.Parts.{open_entries}
 use Rattle.casper_trail.specs.Association.{association_of}
 use Rattle.casper_space.specs.Rising.{rising}
@@ -11,23 +11,19 @@ use Rattle.casper_model.specs.Shared.{Shared}
 use Rattle.casper_model.specs.Stabilisation.{Stabilisation}
 
 -- the members of a stabilisation: the association of its lead
-abbrev pub members_of : Shared → Stabilisation → List ℕ
-members_of shared stabilisation = association_of shared.trail stabilisation.lead
+abbrev pub members_of_stabilisation : Shared → Stabilisation → List ℕ
+members_of_stabilisation shared stabilisation = association_of shared.trail stabilisation.lead
 
 abbrev pub is_member : Shared → ℕ → Stabilisation → Bool
-is_member shared who stabilisation = has_member who (members_of shared stabilisation)
+is_member shared who stabilisation = has_member who (members_of_stabilisation shared stabilisation)
 
 -- the stabilisation that a client is a member of, if there is one
 abbrev pub stabilisation_of : Shared → ℕ → Option Stabilisation
 stabilisation_of shared who = find (is_member shared who) shared.stabilisations
 
--- whether one of these clients has an open write on a page
-abbrev pub is_modified_by : List Item → List ℕ → ℕ → Bool
-is_modified_by trail members page = list_any (λ entry. writes_page page entry && has_member entry.who members) (open_entries trail)
-
 -- whether a page is modified by the association that is being made stable
 abbrev pub is_modified_in : Shared → ℕ → Stabilisation → Bool
-is_modified_in shared page stabilisation = is_modified_by shared.trail (members_of shared stabilisation) page
+is_modified_in shared page stabilisation = is_modified_by (members_of_stabilisation shared stabilisation) shared.trail page
 
 -- the open writes of these clients
 abbrev pub open_writes_of : List Item → List ℕ → List Entry

@@ -8,11 +8,11 @@ use Rattle.casper_model.specs.declared.event.Event.TheVariants.{Join, Read, Writ
 use Rattle.casper_model.specs.Outside.{WriteOutFailed, WriteOutDoubted}
 use Rattle.casper_model.specs.Run.{Happening, state_after}
 use Rattle.casper_model.specs.State.{start, zero_vault}
-use Rattle.casper_model.specs.Row.{Gives, GivesQuietly, quiet, usual}
+use Rattle.casper_model.specs.Row.{RunGives, GivesQuietly, quiet, usual}
 use Rattle.casper_model.specs.AssociationRows.{linking, linked}
 use Rattle.casper_model.specs.StabilisationRows.{gather, formatted}
 
--- the first turn behind the finish that is no stabilise loses the outcome
+-- the first turn after the finish that is no stabilise loses the outcome
 abbrev pub OutcomeDropped : Type 0
 OutcomeDropped =
     GivesQuietly usual
@@ -72,7 +72,7 @@ OneWriteOutAtATime =
 -- none starts while one is in doubt
 abbrev pub NoWriteOutInDoubt : Type 0
 NoWriteOutInDoubt =
-    Gives (formatted 9)
+    RunGives (formatted 9)
     (map quiet (Join 1 ∷ Join 2 ∷ Write 1 0 0 1 ∷ Write 2 1 0 2 ∷ Stabilise 1 ∷ Stabilise 2 ∷ []) ++ record { event = WriteOut 1; outside = WriteOutDoubted }
     ∷ map quiet (Finish 1 ∷ WriteOut 2 ∷ Settle ∷ WriteOut 2 ∷ []))
     (Joined ∷ Joined ∷ Ok ∷ Ok ∷ Sealed 1 ∷ Sealed 1 ∷ Doubt ∷ InDoubt ∷ Vault 1 ∷ Commit 4 ∷ Written 3 ∷ [])
@@ -81,7 +81,7 @@ NoWriteOutInDoubt =
 -- until the finish, a write-out that ended in doubt is like any that is not finished
 abbrev pub DoubtBeforeItsFinish : Type 0
 DoubtBeforeItsFinish =
-    Gives (formatted 9)
+    RunGives (formatted 9)
     (map quiet (Join 1 ∷ Write 1 0 0 1 ∷ Stabilise 1 ∷ []) ++ record { event = WriteOut 1; outside = WriteOutDoubted }
     ∷ map quiet (Settle ∷ Read 1 9 0 ∷ Stabilise 1 ∷ Finish 1 ∷ Settle ∷ []))
     (Joined ∷ Ok ∷ Sealed 1 ∷ Doubt ∷ Nothing ∷ Frozen 1 ∷ Doing 1 ∷ InDoubt ∷ Commit 2 ∷ [])
@@ -98,13 +98,13 @@ SealedByAnAsker =
 -- a client that left and joins again is a member again at once
 abbrev pub MemberThatJoinsAgain : Type 0
 MemberThatJoinsAgain =
-    Gives (formatted 9)
+    RunGives (formatted 9)
     (map quiet (Join 1 ∷ Write 1 0 0 1 ∷ Stabilise 1 ∷ Depart 1 ∷ Join 1 ∷ Read 1 9 0 ∷ Lose 1 ∷ []) ++ record { event = WriteOut 1; outside = WriteOutFailed }
     ∷ map quiet (Finish 1 ∷ Serve 1 ∷ []))
     (Joined ∷ Ok ∷ Sealed 1 ∷ Left ∷ Joined ∷ Frozen 1 ∷ LoseNoted 1 ∷ Disk ∷ Undone 2 ∷ RolledBack 2 1 0 ∷ [])
     (record { commits = 0; rollbacks = 1; version = 1 })
 
--- there is no version behind the last
+-- there is no version after the last
 abbrev pub NoFurtherVersion : Type 0
 NoFurtherVersion =
     GivesQuietly (start (record (zero_vault 16) { version = 281474976710655 }) 16 4194304 64)
@@ -119,7 +119,7 @@ two_losses =
 -- of two losses that were noted the first is carried out
 abbrev pub FirstNotedLoss : Type 0
 FirstNotedLoss =
-    Gives (formatted 9) two_losses
+    RunGives (formatted 9) two_losses
     (linked ++ Sealed 1 ∷ LoseNoted 1 ∷ LoseNoted 1 ∷ Disk ∷ Undone 3 ∷ [])
     (record { commits = 0; rollbacks = 1; version = 1 })
 

@@ -8,11 +8,11 @@ use Rattle.casper_model.specs.Stabilisation.{without}
 use Rattle.casper_model.specs.Shared.{Shared, fallen_at, place_client, each_stabilisation}
 use Rattle.casper_model.specs.Own.{Own, blank}
 use Rattle.casper_model.specs.Both.{Both, Changed, Turned, turned}
-use Rattle.casper_model.specs.Opening.{told, opened}
+use Rattle.casper_model.specs.Opening.{told_of_fall, opened}
 use Rattle.casper_model.specs.Loss.{loss_of}
 
 abbrev pub served_by : Shared → Own → Option Fallen → Turned Served
-served_by shared own (Some fallen) = turned (served.RolledBack fallen.mark fallen.dropped (length own.pending)) (told shared own)
+served_by shared own (Some fallen) = turned (served.RolledBack fallen.mark fallen.dropped (length own.pending)) (told_of_fall shared own)
 served_by shared own None = turned served.Ok (opened shared own)
 
 -- a turn that does no more than open
@@ -27,7 +27,7 @@ absent both = record {
 }
 
 abbrev pub departed_by : Shared → Own → Option Fallen → Turned Served
-departed_by shared own (Some fallen) = turned (served.RolledBack fallen.mark fallen.dropped (length own.pending)) (told shared own)
+departed_by shared own (Some fallen) = turned (served.RolledBack fallen.mark fallen.dropped (length own.pending)) (told_of_fall shared own)
 departed_by shared own None = turned served.Ok (absent (opened shared own))
 
 -- a turn in which a client gives up every page and departs. One that had fallen stays live

@@ -14,11 +14,11 @@ use Rattle.casper_model.specs.Shared.{Shared, fallen_at, each_client, change_sta
 use Rattle.casper_model.specs.Both.{Changed}
 use Rattle.casper_model.specs.Frozen.{stabilisation_of}
 
--- how many recorded reads and writes of a client a rollback behind these items drops
+-- how many recorded reads and writes of a client a rollback after these items drops
 abbrev pub dropped_of : List Item → ℕ → ℕ
 dropped_of items who = count_by (is_call_of who) (open_entries items)
 
--- a client that falls by a mark behind these items: its rights and asks are taken away
+-- a client that falls by a mark after these items: its rights and asks are taken away
 abbrev pub fallen_behind : List Item → ℕ → Client → Client
 fallen_behind items who client = record client {
   rights = [];

@@ -21,8 +21,8 @@ abbrev pub kept_dropped : ℕ → Shared → Shared
 kept_dropped who shared = change_client who (λ client. record client { kept = None }) shared
 
 -- a fallen client is told: its cache and its pending calls are cleared, and nothing of it is recorded
-abbrev pub told : Shared → Own → Both
-told shared own = record {
+abbrev pub told_of_fall : Shared → Own → Both
+told_of_fall shared own = record {
   shared = change_client own.who (λ client. record client { kept = None; fallen = None }) shared;
   own = record own { held = []; pending = [] };
 }

@@ -6,10 +6,10 @@ use Rattle.casper_model.specs.declared.event.Event.TheVariants.{Join, Read, Writ
 use Rattle.casper_model.specs.Outside.{WriteOutFailed, WriteOutDoubted, SettleFailed}
 use Rattle.casper_model.specs.Run.{Happening}
 use Rattle.casper_model.specs.State.{State, start, zero_vault}
-use Rattle.casper_model.specs.Row.{Gives, GivesQuietly, quiet, usual}
+use Rattle.casper_model.specs.Row.{RunGives, GivesQuietly, quiet, usual}
 use Rattle.casper_model.specs.AssociationRows.{linking, linked}
 
--- the kept outcome is taken by the first stabilise behind the finish, and the next one begins anew
+-- the kept outcome is taken by the first stabilise after the finish, and the next one begins anew
 abbrev pub RepeatedStabilisation : Type 0
 RepeatedStabilisation =
     GivesQuietly usual
@@ -67,7 +67,7 @@ FramesUsedUp =
 -- a write-out that fails without doubt leaves the association as it was
 abbrev pub FaultBeforeTheGate : Type 0
 FaultBeforeTheGate =
-    Gives (formatted 9)
+    RunGives (formatted 9)
     (map quiet (Join 1 ∷ Write 1 0 0 1 ∷ Stabilise 1 ∷ []) ++ record { event = WriteOut 1; outside = WriteOutFailed }
     ∷ map quiet (Finish 1 ∷ Stabilise 1 ∷ Stabilise 1 ∷ WriteOut 1 ∷ Finish 1 ∷ []))
     (Joined ∷ Ok ∷ Sealed 1 ∷ Disk ∷ FailedDisk false ∷ FailedDisk false ∷ Sealed 1 ∷ Written 2 ∷ Commit 2 ∷ [])
@@ -85,7 +85,7 @@ in_doubt = Joined ∷ Ok ∷ Sealed 1 ∷ Doubt ∷ InDoubt ∷ Doubtful 1 ∷ I
 -- the association stays frozen, in doubt, until the doubt is settled
 abbrev pub DoubtSettled : Type 0
 DoubtSettled =
-    Gives (formatted 9)
+    RunGives (formatted 9)
     (doubt ++ map quiet (Settle ∷ Read 1 9 0 ∷ Settle ∷ []))
     (in_doubt ++ Commit 2 ∷ Value 0 ∷ Nothing ∷ [])
     (record { commits = 1; rollbacks = 0; version = 2 })
@@ -93,7 +93,7 @@ DoubtSettled =
 -- a settle that fails leaves the doubt
 abbrev pub DoubtThatStands : Type 0
 DoubtThatStands =
-    Gives (formatted 9)
+    RunGives (formatted 9)
     (doubt ++ record { event = Settle; outside = SettleFailed } ∷ map quiet (Read 1 9 0 ∷ Settle ∷ []))
     (in_doubt ++ Disk ∷ InDoubt ∷ Commit 2 ∷ [])
     (record { commits = 1; rollbacks = 0; version = 2 })
@@ -109,7 +109,7 @@ LossWhileSealed =
 -- where it fails, the loss is carried out at the finish
 abbrev pub LossWhileSealedUndone : Type 0
 LossWhileSealedUndone =
-    Gives (formatted 9)
+    RunGives (formatted 9)
     (map quiet (linking ++ Stabilise 1 ∷ Vanish 2 ∷ []) ++ record { event = WriteOut 1; outside = WriteOutFailed } ∷ map quiet (Finish 1 ∷ Serve 1 ∷ []))
     (linked ++ Sealed 1 ∷ VanishNoted 1 1 ∷ Disk ∷ Undone 3 ∷ RolledBack 3 1 0 ∷ [])
     (record { commits = 0; rollbacks = 1; version = 1 })
@@ -125,7 +125,7 @@ LossWhileGathering =
 -- a loss that is noted while the write-out is in doubt is forgotten as the doubt is settled
 abbrev pub LossInDoubt : Type 0
 LossInDoubt =
-    Gives (formatted 9)
+    RunGives (formatted 9)
     (map quiet (Join 1 ∷ Join 2 ∷ Write 1 0 0 1 ∷ Stabilise 1 ∷ []) ++ record { event = WriteOut 1; outside = WriteOutDoubted }
     ∷ map quiet (Lose 1 ∷ Finish 1 ∷ Settle ∷ Lose 1 ∷ []))
     (Joined ∷ Joined ∷ Ok ∷ Sealed 1 ∷ Doubt ∷ LoseNoted 1 ∷ InDoubt ∷ Commit 2 ∷ LoseLost 3 ∷ [])

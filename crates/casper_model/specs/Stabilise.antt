@@ -13,7 +13,7 @@ use Rattle.casper_model.specs.Shared.{Shared, client_at, of_client, rights_at, f
 use Rattle.casper_model.specs.Own.{Own}
 use Rattle.casper_model.specs.Both.{Both, Turned, turned}
 use Rattle.casper_model.specs.Frozen.{stabilisation_of, pages_modified_by}
-use Rattle.casper_model.specs.Opening.{told, opened, handed_in}
+use Rattle.casper_model.specs.Opening.{told_of_fall, opened, handed_in}
 
 -- the outcome that is kept for a client, if there is one
 abbrev pub kept_at : Shared → ℕ → Option Kept
@@ -69,7 +69,7 @@ stabilised both None = stabilised_in both (stabilisation_of both.shared both.own
 stabilised both (Some outcome) = turned (reply_of_kept outcome) both
 
 abbrev pub stabilised_by : Shared → Own → Option Fallen → Turned StabReply
-stabilised_by shared own (Some fallen) = turned (reply.RolledBack fallen.mark fallen.dropped (length own.pending)) (told shared own)
+stabilised_by shared own (Some fallen) = turned (reply.RolledBack fallen.mark fallen.dropped (length own.pending)) (told_of_fall shared own)
 stabilised_by shared own None = stabilised (opened shared own) (kept_at shared own.who)
 
 -- a turn in which a client wants its association stable

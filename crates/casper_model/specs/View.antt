@@ -13,7 +13,7 @@ abbrev pub seen_by : Shared → Option Fallen → List Entry
 seen_by shared None = live_entries shared.trail
 seen_by shared (Some fallen) = fallen.seen
 
--- the entries that a client sees: the recorded ones, and behind them its own pending calls
+-- the entries that a client sees: the recorded ones, and after them its own pending calls
 abbrev pub view : Shared → Own → List Entry
 view shared own = seen_by shared (fallen_at shared own.who) ++ entries_by own.who own.pending
 

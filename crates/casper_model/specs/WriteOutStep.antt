@@ -7,7 +7,7 @@ use Rattle.casper_space.specs.declared.answer.Answer.TheVariants as answer
 use Rattle.casper_model.specs.declared.outcome.Outcome.{Outcome}
 use Rattle.casper_model.specs.Stabilisation.{Stabilisation, is_sealed}
 use Rattle.casper_model.specs.Shared.{Shared}
-use Rattle.casper_model.specs.Frozen.{members_of, pages_modified_by}
+use Rattle.casper_model.specs.Frozen.{members_of_stabilisation, pages_modified_by}
 use Rattle.casper_model.specs.Finish.{finish, settled, doubtful_of}
 use Rattle.casper_model.specs.Outside.{Outside, is_settle_failed}
 use Rattle.casper_space.specs.Changes.{Change}
@@ -21,7 +21,7 @@ abbrev pub changes_of : State → Stabilisation → List Change
 changes_of state one =
     let array = array_of state.base (live_entries state.shared.trail) in
     map (λ page. record { page = page; words = slice_index_or array page [] })
-    (pages_modified_by state.shared.trail (members_of state.shared one))
+    (pages_modified_by state.shared.trail (members_of_stabilisation state.shared one))
 
 -- the sealed stabilisation of a lead, if there is one
 abbrev pub sealed_of : Shared → ℕ → Option Stabilisation

@@ -32,7 +32,7 @@ pub fn law_of_exact_marks()
 {}
 
 /// At every moment of every run the trail is legal: each read has the value of the last write on its word that was
-/// live before it, and without one the value that the session found. So is the trail with all pending calls behind
+/// live before it, and without one the value that the session found. So is the trail with all pending calls after
 /// it, and so is its live part by itself. The stable part is causally closed. It does nothing.
 pub fn law_of_legal_history()
     ensures step { EachStepKeepsHistory }

@@ -82,7 +82,7 @@ pub fn rows_of_frozen_associations()
     ensures fallen_vanishes { FallenClientVanishes }
 {}
 
-/// What runs answer behind the fall of a client. It does nothing.
+/// What runs answer after the fall of a client. It does nothing.
 pub fn rows_of_losses()
     ensures fallen_rights { RightsOfAFallenClient }
     ensures fallen_asks { AsksOfAFallenClient }

@@ -19,7 +19,7 @@ use Rattle.casper_names.proofs.Keeping.{at_position, one_name}
 use Rattle.casper_names.proofs.Naming.{entries_count}
 use Rattle.casper_names.proofs.Writing.{after_entry, written_entries, value_there, others_stay}
 
--- where none passes, neither the first nor one behind it does
+-- where none passes, neither the first nor one after it does
 none_behind : {X : Type 0} (p : X → Bool) (x : X) (xs : List X) → length (x ∷ xs) ≤ position_or_len p (x ∷ xs) → (p x ≡ false) × (length xs ≤ position_or_len p xs)
 none_behind p x xs none =
     elim (cases_Bool (p x)) [

@@ -34,7 +34,7 @@ answer_of_bind None entry = Err NameFault.NoObject
 answer_of_bind (Some fields) None = Err NameFault.TableFull
 answer_of_bind (Some fields) (Some entry) = Ok tt
 
--- a word of the bytes of a name, little-endian, with zeros behind the last byte
+-- a word of the bytes of a name, little-endian, with zeros after the last byte
 abbrev pub name_word : List ℕ → ℕ → ℕ
 name_word name word = from_le_bytes w64 (take 8 (drop (8 * word) (padded 24 0 name)))
 

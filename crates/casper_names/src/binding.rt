@@ -28,7 +28,8 @@ fn free_entry(entries: &[Option<Name>]) -> Option<usize>
 
 /// The entry where a name is bound: the first with this name, else the first that is not valid.
 fn entry_to_bind(entries: &[Option<Name>], name: &Name) -> Option<usize>
-    ensures entry { result ≡ found_or_free (position (is_named name.now) entries.now) (position is_free entries.now) }
+    ensures entry { result
+        ≡ found_or_free (position (is_named name.now) entries.now) (position is_free entries.now) }
     ensures within { IfSome result (λ entry. entry < length entries.now) }
 {
     find_entry(entries, name).or_else(|| free_entry(entries))
@@ -40,7 +41,8 @@ fn scan_to_bind<W: Words>(words: &mut W, name: &Name) -> Option<usize>
     requires room { 256 ≤ (W.seen words.old).room }
     ensures entry { result ≡ entry_for ((W.seen words.old).words 0) name.now }
     ensures within { IfSome result (λ entry. entry < 64) }
-    ensures made { HasMade W.seen W.step words.old (scan_calls ((W.seen words.old).words 0)) words.new }
+    ensures made { HasMade W.seen W.step words.old
+        (scan_calls ((W.seen words.old).words 0)) words.new }
     ensures words { (W.seen words.new).words ≡ (W.seen words.old).words }
     ensures few { (W.seen words.old).room ≤ (W.seen words.new).room + 256 }
 {
@@ -62,13 +64,18 @@ pub fn bind<W: Words>(words: &mut W, name: &Name, r: Ref) -> Result<(), NameFaul
     requires table { (W.seen words.old).right 0 ≡ Some Right.Write }
     requires held { IsSome ((W.seen words.old).right r.page) }
     requires room { 600 ≤ (W.seen words.old).room }
-    ensures answer { result ≡ answer_of_bind (objects_of (W.seen words.old).words r) (entry_for ((W.seen words.old).words 0) name.now) }
+    ensures answer { result
+        ≡ answer_of_bind (objects_of (W.seen words.old).words r)
+        (entry_for ((W.seen words.old).words 0) name.now) }
     ensures bound { OnOk result ((other : List ℕ) → names_of ((W.seen words.new).words 0) other
         ≡ with_name (names_of ((W.seen words.old).words 0)) name.now (value_of_ref r) other) }
     ensures entry { OnOk result (let page_words = (W.seen words.old).words 0 in
-        entries_of ((W.seen words.new).words 0) ≡ with_entry (entries_of page_words) (entry_for page_words name.now) name.now) }
-    ensures pages { (page : ℕ) → page ≢ 0 → (W.seen words.new).words page ≡ (W.seen words.old).words page }
-    ensures made { HasMade W.seen W.step words.old (bind_calls (W.seen words.old).words name.now r) words.new }
+        entries_of ((W.seen words.new).words 0)
+        ≡ with_entry (entries_of page_words) (entry_for page_words name.now) name.now) }
+    ensures pages { (page : ℕ) → page ≢ 0
+        → (W.seen words.new).words page ≡ (W.seen words.old).words page }
+    ensures made { HasMade W.seen W.step words.old
+        (bind_calls (W.seen words.old).words name.now r) words.new }
     ensures few { (W.seen words.old).room ≤ (W.seen words.new).room + 600 }
     ensures refused { OnErr result ((W.seen words.new).words ≡ (W.seen words.old).words) }
 {

@@ -47,7 +47,8 @@ fn read_entry<W: Words>(words: &mut W, entry: u32) -> Option<Name>
     requires within { entry < 64 }
     requires room { 4 ≤ (W.seen words.old).room }
     ensures name { result ≡ name_at ((W.seen words.old).words 0) entry }
-    ensures made { HasMade W.seen W.step words.old (entry_reads ((W.seen words.old).words 0) entry) words.new }
+    ensures made { HasMade W.seen W.step words.old
+        (entry_reads ((W.seen words.old).words 0) entry) words.new }
     ensures words { (W.seen words.new).words ≡ (W.seen words.old).words }
     ensures few { (W.seen words.old).room ≤ (W.seen words.new).room + 4 }
 {
@@ -67,7 +68,8 @@ pub(crate) fn scan<W: Words>(words: &mut W) -> Entries
     requires held { IsSome ((W.seen words.old).right 0) }
     requires room { 256 ≤ (W.seen words.old).room }
     ensures entries { result.items ≡ entries_of ((W.seen words.old).words 0) }
-    ensures made { HasMade W.seen W.step words.old (scan_calls ((W.seen words.old).words 0)) words.new }
+    ensures made { HasMade W.seen W.step words.old
+        (scan_calls ((W.seen words.old).words 0)) words.new }
     ensures words { (W.seen words.new).words ≡ (W.seen words.old).words }
     ensures few { (W.seen words.old).room ≤ (W.seen words.new).room + 256 }
 {
@@ -79,7 +81,7 @@ pub(crate) fn scan<W: Words>(words: &mut W) -> Entries
     entries
 }
 
-/// The bytes of a name, and zeros behind them.
+/// The bytes of a name, and zeros after them.
 fn padded_bytes(name: &Name) -> [u8; 24]
     ensures { result ≡ padded 24 0 name.now }
 {

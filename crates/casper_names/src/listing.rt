@@ -13,7 +13,8 @@ fn list_entry<W: Words>(words: &mut W, entry: u32, name: Option<Name>, into: &mu
     requires few { length into.old < 64 }
     requires room { 1 ≤ (W.seen words.old).room }
     ensures added { into.new ≡ into.old ++ listed name }
-    ensures made { HasMade W.seen W.step words.old (valid_read ((W.seen words.old).words 0) entry name) words.new }
+    ensures made { HasMade W.seen W.step words.old
+        (valid_read ((W.seen words.old).words 0) entry name) words.new }
     ensures words { (W.seen words.new).words ≡ (W.seen words.old).words }
     ensures left { (W.seen words.old).room ≤ (W.seen words.new).room + 1 }
 {
@@ -30,7 +31,8 @@ pub fn list<W: Words>(words: &mut W, into: &mut NameList)
     requires empty { into.old ≡ [] }
     requires room { 600 ≤ (W.seen words.old).room }
     ensures names { into.new ≡ names_in (entries_of ((W.seen words.old).words 0)) }
-    ensures made { HasMade W.seen W.step words.old (list_calls ((W.seen words.old).words 0)) words.new }
+    ensures made { HasMade W.seen W.step words.old
+        (list_calls ((W.seen words.old).words 0)) words.new }
     ensures few { (W.seen words.old).room ≤ (W.seen words.new).room + 600 }
     ensures same { (W.seen words.new).words ≡ (W.seen words.old).words }
 {

@@ -39,7 +39,8 @@ pub fn lookup<W: Words>(words: &mut W, name: &Name) -> Option<u64>
     requires held { IsSome ((W.seen words.old).right 0) }
     requires room { 600 ≤ (W.seen words.old).room }
     ensures answer { result ≡ names_of ((W.seen words.old).words 0) name.now }
-    ensures made { HasMade W.seen W.step words.old (lookup_calls ((W.seen words.old).words 0) name.now) words.new }
+    ensures made { HasMade W.seen W.step words.old
+        (lookup_calls ((W.seen words.old).words 0) name.now) words.new }
     ensures few { (W.seen words.old).room ≤ (W.seen words.new).room + 600 }
     ensures same { (W.seen words.new).words ≡ (W.seen words.old).words }
 {
@@ -57,11 +58,15 @@ pub fn unbind<W: Words>(words: &mut W, name: &Name) -> bool
     requires room { 600 ≤ (W.seen words.old).room }
     ensures answer { result ≡ is_some (names_of ((W.seen words.old).words 0) name.now) }
     ensures removed { let page_words = (W.seen words.old).words 0 in
-        entries_of ((W.seen words.new).words 0) ≡ without_entry (entries_of page_words) (entry_of page_words name.now) }
+        entries_of ((W.seen words.new).words 0)
+        ≡ without_entry (entries_of page_words) (entry_of page_words name.now) }
     ensures others { (other : List ℕ) → bytes_eq other name.now ≡ false
-        → names_of ((W.seen words.new).words 0) other ≡ names_of ((W.seen words.old).words 0) other }
-    ensures pages { (page : ℕ) → page ≢ 0 → (W.seen words.new).words page ≡ (W.seen words.old).words page }
-    ensures made { HasMade W.seen W.step words.old (unbind_calls ((W.seen words.old).words 0) name.now) words.new }
+        → names_of ((W.seen words.new).words 0) other
+        ≡ names_of ((W.seen words.old).words 0) other }
+    ensures pages { (page : ℕ) → page ≢ 0
+        → (W.seen words.new).words page ≡ (W.seen words.old).words page }
+    ensures made { HasMade W.seen W.step words.old
+        (unbind_calls ((W.seen words.old).words 0) name.now) words.new }
     ensures few { (W.seen words.old).room ≤ (W.seen words.new).room + 600 }
 {
     let entries = scan(words);

@@ -5,7 +5,7 @@ use Rattle.casper_rec.specs.Table.{IsField, StandFrom}
 use Rattle.casper_rec.specs.TableLaws.{TablesStandApart}
 use Rattle.casper_rec.proofs.TableLemmas.{field_at}
 
--- the fields behind a byte begin at or behind it
+-- the fields after a byte begin at or after it
 stand_behind : (byte : ℕ) (fields : List Field) (k : ℕ) (d : Field) → StandFrom byte fields → k < length fields → byte ≤ (get_or fields k d).offset
 stand_behind byte [] k d stand within = absurd (omega arith)
 stand_behind byte (field ∷ fields) zero d stand within = stand.0

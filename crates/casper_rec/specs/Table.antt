@@ -6,7 +6,7 @@ pub record IsField (field : Field) : Type 0 where
   pub width : (field.width ≡ 4) ⊎ (field.width ≡ 8)
   pub within : field.offset + field.width ≤ 4096
 
--- each field begins at or behind the end of the one before, the first one at or behind this byte
+-- each field begins at or after the end of the one before, the first one at or after this byte
 abbrev pub StandFrom : ℕ → List Field → Type 0
 StandFrom byte [] = Unit {0}
 StandFrom byte (field ∷ fields) = (byte ≤ field.offset) × IsField field × StandFrom (field.offset + field.width) fields

@@ -36,7 +36,7 @@ macro_rules! for_each_field {
 }
 
 impl<const N: usize> Rec<N> {
-    /// The record of these fields. There is none where a width is neither four nor eight, a field ends behind the block,
+    /// The record of these fields. There is none where a width is neither four nor eight, a field ends after the block,
     /// or a field begins before the end of the one before it.
     pub fn new(fields: [Field; N]) -> Option<Rec<N>>
         ensures exactly { IsSome result ↔ IsTable fields.entry }
@@ -65,7 +65,8 @@ impl<const N: usize> Rec<N> {
         requires { FitFields self.now values.now }
         ensures written { into.new ≡ with_values self.now values.now into.old }
         ensures values { values_of self.now into.new ≡ values.now }
-        ensures others { (place : ℕ) → IsOutside self.now place → slice_index into.new place ≡ slice_index into.old place }
+        ensures others { (place : ℕ) → IsOutside self.now place
+            → slice_index into.new place ≡ slice_index into.old place }
     {
         // Before any field is written the proof wants to know that the block has 4,096 bytes.
         let _whole = into.bytes();

@@ -1,8 +1,7 @@
-use Rattle.std.specs.Prelude.{◌≡◌, ℕ, ◌+◌, List, [], ◌∷◌, ◌++◌, length, cond, nat_lt, slice_index_or, slice_set, Option, None, Some}
+use Rattle.std.specs.Prelude.{◌≡◌, ℕ, ◌+◌, List, [], ◌∷◌, ◌++◌, length, cond, nat_lt, slice_index_or, slice_set, None, Some}
 use Rattle.casper_words.specs.declared.page.Right.{Right}
 use Rattle.casper_words.specs.declared.call.Call.{Call}
 use Rattle.casper_words.specs.declared.call.Op.{Op}
-use Rattle.casper_words.specs.declared.call.Op.TheVariants.{Read, Write, Touch}
 use Rattle.casper_space.specs.WordCalls.{HeldWords}
 
 -- pages in memory, each a list of its words, the calls made, and the room for more

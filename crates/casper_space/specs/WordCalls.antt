@@ -2,7 +2,6 @@ use Rattle.std.specs.Prelude.{◌≡◌, ℕ, ◌+◌, ◌==◌, List, [], ◌�
 use Rattle.casper_words.specs.declared.page.Right.{Right}
 use Rattle.casper_words.specs.declared.call.Call.{Call}
 use Rattle.casper_words.specs.declared.call.Op.{Op}
-use Rattle.casper_words.specs.declared.call.Op.TheVariants.{Read, Write, Touch}
 
 -- what is seen of held pages: the right to each page, if it is held, and its words; the calls made, in order; and how many
 -- more there is room for

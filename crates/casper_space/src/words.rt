@@ -25,7 +25,8 @@ pub trait Words {
         ensures long { length ((seen self.old).words page) ≡ 512 }
         ensures right { (seen self.new).right ≡ (seen self.old).right }
         ensures words { (seen self.new).words ≡ (seen self.old).words }
-        ensures made { (seen self.new).calls ≡ (seen self.old).calls ++ read_of page word result ∷ [] }
+        ensures made { (seen self.new).calls
+            ≡ (seen self.old).calls ++ read_of page word result ∷ [] }
         ensures left { (seen self.old).room ≡ (seen self.new).room + 1 }
         ensures step { step self.old (read_of page word result) self.new };
 
@@ -37,7 +38,8 @@ pub trait Words {
         ensures words { (seen self.new).words ≡ with_word (seen self.old).words page word value }
         ensures long { length ((seen self.old).words page) ≡ 512 }
         ensures right { (seen self.new).right ≡ (seen self.old).right }
-        ensures made { (seen self.new).calls ≡ (seen self.old).calls ++ write_of page word value ∷ [] }
+        ensures made { (seen self.new).calls
+            ≡ (seen self.old).calls ++ write_of page word value ∷ [] }
         ensures left { (seen self.old).room ≡ (seen self.new).room + 1 }
         ensures step { step self.old (write_of page word value) self.new };
 }

@@ -62,7 +62,8 @@ impl Trail {
         ensures limit { self.new.limit ≡ self.old.limit }
         ensures ok { OnOk result (items ≤ self.new.room) }
         ensures grows { self.old.room ≤ self.new.room }
-        ensures spare { self.new.room ≤ max (max self.old.room items) (max (length self.old.items / 4) 64) }
+        ensures spare { self.new.room ≤ max (max self.old.room items)
+            (max (length self.old.items / 4) 64) }
         ensures succeeds { items ≤ self.old.room → IsOk result }
         ensures err { OnErr result (self.new ≡ self.old) }
     {
@@ -79,7 +80,8 @@ impl Trail {
     pub fn push_all(&mut self, who: Who, calls: &Calls)
         requires room { length calls.now.items ≤ self.old.room }
         requires limit { entry_count self.old.items + length calls.now.items ≤ self.old.limit }
-        ensures items { self.new.items ≡ self.old.items ++ as_items (entries_by who calls.now.items) }
+        ensures items { self.new.items
+            ≡ self.old.items ++ as_items (entries_by who calls.now.items) }
         ensures limit { self.new.limit ≡ self.old.limit }
         ensures room { self.old.room ≡ self.new.room + length calls.now.items }
     {

@@ -31,15 +31,15 @@ use Rattle.casper_model.specs.Stabilisation.{Stabilisation, is_gathering}
 use Rattle.casper_model.specs.View.{seen_by}
 use Rattle.casper_model.proofs.Entries.{contains_entry}
 use Rattle.casper_model.proofs.HeldRights.{covers_read, allows_covered}
-use Rattle.casper_turns.specs.Apart.{Apart, recorded_value}
+use Rattle.casper_turns.specs.KeepsClient.{KeepsClient, recorded_value}
 use Rattle.casper_turns.specs.Good.{IsGoodWith}
 use Rattle.casper_turns.specs.Right.{ReadsAreRight}
-use Rattle.casper_turns.specs.Still.{StandsStill, Still}
+use Rattle.casper_turns.specs.CommitsNothing.{StandsStill, CommitsNothing}
 use Rattle.casper_turns.proofs.Lists.{contains_here, not_some}
 use Rattle.casper_turns.proofs.NotedUp.{not_fallen}
 
--- what a client may rely on, while nothing happens and while one thing happens behind another
-pub apart_itself : (who : ℕ) (shared : Shared) → Apart who shared shared
+-- what a client may rely on, while nothing happens and while one thing happens after another
+pub apart_itself : (who : ℕ) (shared : Shared) → KeepsClient who shared shared
 apart_itself who shared = record {
   more = [];
   trail = sym (append-nil shared.trail);
@@ -57,10 +57,10 @@ apart_itself who shared = record {
 }
 
 -- who is not fallen was not before
-pub up_before : (who : ℕ) (shared after : Shared) → Apart who shared after → fallen_at after who ≡ None → fallen_at shared who ≡ None
+pub up_before : (who : ℕ) (shared after : Shared) → KeepsClient who shared after → fallen_at after who ≡ None → fallen_at shared who ≡ None
 up_before who shared after apart up = not_fallen (fallen_at shared who) (λ fallen is. not_some fallen (sym up ∙ apart.lost fallen is))
 
-pub apart_again : (who : ℕ) (shared middle after : Shared) → Apart who shared middle → Apart who middle after → Apart who shared after
+pub apart_again : (who : ℕ) (shared middle after : Shared) → KeepsClient who shared middle → KeepsClient who middle after → KeepsClient who shared after
 apart_again who shared middle after first second = record {
   more = first.more ++ second.more;
   trail = second.trail ∙ ap (λ trail. trail ++ second.more) first.trail ∙ append_assoc shared.trail first.more second.more;
@@ -95,8 +95,8 @@ apart_again who shared middle after first second = record {
         ap (λ fallen. value_of base (seen_by after fallen) page word) (second.lost between e)
         ∙ sym (ap (λ fallen. value_of base (seen_by middle fallen) page word) e)
 
--- nothing is committed, while nothing happens and while one thing happens behind another
-pub still_itself : (shared : Shared) → Still shared shared
+-- nothing is committed, while nothing happens and while one thing happens after another
+pub still_itself : (shared : Shared) → CommitsNothing shared shared
 still_itself shared = record {
   more = [];
   trail = sym (append-nil shared.trail);
@@ -133,7 +133,7 @@ stands_again shared middle after more further one first second = record {
     members_are : association_of middle.trail first.same.lead ≡ association_of shared.trail one.lead
     members_are = ap (association_of middle.trail) first.lead ∙ first.members
 
-pub still_again : (shared middle after : Shared) → Still shared middle → Still middle after → Still shared after
+pub still_again : (shared middle after : Shared) → CommitsNothing shared middle → CommitsNothing middle after → CommitsNothing shared after
 still_again shared middle after first second = record {
   more = first.more ++ second.more;
   trail = second.trail ∙ ap (λ trail. trail ++ second.more) first.trail ∙ append_assoc shared.trail first.more second.more;
@@ -154,7 +154,7 @@ known_by_agreement None own agrees up page right found = sym (ap (λ held. allow
 known_by_agreement (Some client) own agrees up page right found = (subst (AgreesUnlessFallen client own) up agrees).1 page right ∙ found
 
 -- while others act, what is good of a shared part with a client's own part stays
-pub good_with_while_apart : (shared after : Shared) (own : Own) → IsGoodWith shared own → Apart own.who shared after → IsGoodWith after own
+pub good_with_while_apart : (shared after : Shared) (own : Own) → IsGoodWith shared own → KeepsClient own.who shared after → IsGoodWith after own
 good_with_while_apart shared after own good apart = record {
   client = good.client;
   agrees = apart.agrees own good.agrees;
@@ -164,7 +164,7 @@ good_with_while_apart shared after own good apart = record {
   calls = λ up. good.calls (up_before own.who shared after apart up);
 }
 
--- calls that are right are so behind entries with the same words in their pages
+-- calls that are right are so after entries with the same words in their pages
 right_by_values : (base : List (List ℕ)) (before other entries : List Entry)
     → ((entry : Entry) → Contains entries entry → (word : ℕ) → value_of base other entry.page word ≡ value_of base before entry.page word)
     → AreRightAfter base before entries → AreRightAfter base other entries
@@ -185,7 +185,7 @@ right_by_values base before other (next ∷ following) same right = (
     read_still op.Touch is = tt
 
 -- and so do pending reads that are right
-pub reads_while_apart : (base : List (List ℕ)) (shared after : Shared) (own : Own) → IsGoodWith shared own → Apart own.who shared after
+pub reads_while_apart : (base : List (List ℕ)) (shared after : Shared) (own : Own) → IsGoodWith shared own → KeepsClient own.who shared after
     → ReadsAreRight base shared own → ReadsAreRight base after own
 reads_while_apart base shared after own good apart right up =
     right_by_values base (live_entries shared.trail) (live_entries after.trail) (entries_by own.who own.pending)

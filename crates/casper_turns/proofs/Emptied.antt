@@ -29,7 +29,7 @@ use Rattle.casper_turns.proofs.Others.{apart_same}
 use Rattle.casper_turns.proofs.Recorded.{not_nobody, caps_kept}
 use Rattle.casper_turns.proofs.StillLeft.{still_same}
 
--- what leaves a client with nothing: the trail and the others stay, and behind it the client is not fallen and holds nothing
+-- what leaves a client with nothing: the trail and the others stay, and after it the client is not fallen and holds nothing
 pub record Empties (shared : Shared) (own : Own) (after : Shared) (own_after : Own) : Type 0 where
   pub trail : after.trail ≡ shared.trail
   pub limit : after.limit ≡ shared.limit

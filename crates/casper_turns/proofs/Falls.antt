@@ -19,7 +19,7 @@ use Rattle.casper_turns.proofs.Lists.{not_some}
 abbrev pub fallen_of : Option Client → Option Fallen
 fallen_of place = of_client None (λ client. client.fallen) place
 
--- who is fallen behind a change was so before
+-- who is fallen after a change was so before
 abbrev pub FallsNoMore : Shared → Shared → Type 0
 FallsNoMore shared after = (who : ℕ) (fallen : Fallen) → fallen_at after who ≡ Some fallen → fallen_at shared who ≡ Some fallen
 
@@ -29,7 +29,7 @@ falls_kept shared own after own_after keeps who fallen is =
     ⊎_elim (λ same. absurd (not_some fallen (sym keeps.up ∙ sym (ap (fallen_at after) same) ∙ is)))
     (λ apart. ap fallen_of (sym (keeps.others who apart)) ∙ is) (cases_eq who own.who)
 
--- a rollback: who is fallen behind it was so before, or is in the association of the lost client
+-- a rollback: who is fallen after it was so before, or is in the association of the lost client
 pub falls_within : (shared : Shared) (lost who : ℕ) (fallen : Fallen) → fallen_at (rolled_back shared lost) who ≡ Some fallen
     → (fallen_at shared who ≡ Some fallen) ⊎ ((has_member who (association_of shared.trail lost) ≡ true) × (fallen.seen ≡ live_entries shared.trail))
 falls_within shared lost who fallen is = by_place (client_at shared who) refl (sym (ap fallen_of (client_each change shared who)) ∙ is)

@@ -77,7 +77,7 @@ module _ (shared : Shared) (one : Stabilisation) (good : IsGoodShared shared) (i
       (one_with_member shared.trail shared.stabilisations other one other.lead good.frozen.apart also inside
       (association_holds_its_client shared.trail other.lead (good.frozen.leads other also)) found)))
 
-  -- another one that is there still, behind a mark of the association of the one
+  -- another one that is there still, after a mark of the association of the one
   behind_mark : (after : Shared) (mark : Mark) → IsExactMark shared.trail mark → members_of mark ≡ association_of shared.trail one.lead
       → after.trail ≡ shared.trail ++ item.Mark mark ∷ []
       → ((other : Stabilisation) → Contains shared.stabilisations other → has_member other.lead (members_of mark) ≡ false → other.lead ≢ one.lead

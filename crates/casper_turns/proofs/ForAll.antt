@@ -15,7 +15,7 @@ use Rattle.casper_model.specs.Shared.{Shared, client_at, of_client, rights_at, f
 use Rattle.casper_model.specs.View.{seen_by}
 use Rattle.casper_model.proofs.OpeningRights.{exclusive_with_less}
 use Rattle.casper_model.proofs.StateHistory.{WasUp, Marks}
-use Rattle.casper_turns.specs.Apart.{Apart}
+use Rattle.casper_turns.specs.KeepsClient.{KeepsClient}
 use Rattle.casper_turns.specs.Frozen.{AreFrozen}
 use Rattle.casper_turns.specs.Good.{CapsAreFew, FallenHaveNothing, IsGoodShared}
 use Rattle.casper_turns.specs.Kept.{KeptForAll}
@@ -23,7 +23,7 @@ use Rattle.casper_turns.specs.Noted.{NotedAreMembers, NotedAreUp}
 use Rattle.casper_turns.proofs.Lists.{not_some}
 use Rattle.casper_turns.proofs.MarkAdded.{MarkAdded, added_by_marks}
 
--- what is known to all of a client behind what is no turn of one: it stays, but for its kept outcome, or it falls there
+-- what is known to all of a client after what is no turn of one: it stays, but for its kept outcome, or it falls there
 pub record ClientStays (trail : List Item) (before after : Option Client) : Type 0 where
   pub live : is_some after ≡ is_some before
   pub cap : of_client 0 (λ client. client.cap) after ≡ of_client 0 (λ client. client.cap) before
@@ -142,7 +142,7 @@ module _ (shared after : Shared) (good : IsGoodShared shared) (did : Marked shar
       there : WasUp after who
       there = up_after who page still_holds
 
-  apart_marked : (who : ℕ) → Apart who shared after
+  apart_marked : (who : ℕ) → KeepsClient who shared after
   apart_marked who = record {
     more = added.more;
     trail = added.trail;

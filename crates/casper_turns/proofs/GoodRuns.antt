@@ -21,7 +21,7 @@ use Rattle.casper_turns.specs.Frozen.{IsSealedBy}
 use Rattle.casper_turns.specs.GoodRuns.{UnfinishedIsSealed, IsGoodMoment, EachStepIsGood, EveryRunIsGood, EveryRunIsRight}
 use Rattle.casper_turns.specs.GoodStates.{IsGoodState, IsRightState}
 use Rattle.casper_turns.specs.Kept.{KeptByTurn, OtherLeadsStandStill, IsHeld}
-use Rattle.casper_turns.specs.Still.{StandsStill, Still}
+use Rattle.casper_turns.specs.CommitsNothing.{StandsStill, CommitsNothing}
 use Rattle.casper_model.specs.Hits.{with_call}
 use Rattle.casper_model.specs.Loss.{lose}
 use Rattle.casper_turns.proofs.Compose.{still_itself}
@@ -42,17 +42,17 @@ sealed_waits Sealed is = (refl, refl)
 sealed_waits Doubtful is = absurd (true≢false (sym is))
 
 -- a sealed association stays so while nothing is committed
-sealed_while_still : (shared after : Shared) (lead : ℕ) → Still shared after → IsSealedBy shared lead → IsSealedBy after lead
+sealed_while_still : (shared after : Shared) (lead : ℕ) → CommitsNothing shared after → IsSealedBy shared lead → IsSealedBy after lead
 sealed_while_still shared after lead still seal =
     let stands = still.held seal.0 seal.1 (sealed_waits seal.0.phase seal.3).0 in
     (stands.same, stands.there, stands.lead ∙ seal.2, ap is_sealed stands.phase ∙ seal.3)
 
-unfinished_while_still : (state : State) (after : Shared) (owns : List Own) (unfinished : Option Unfinished) → Still state.shared after
+unfinished_while_still : (state : State) (after : Shared) (owns : List Own) (unfinished : Option Unfinished) → CommitsNothing state.shared after
     → UnfinishedIsSealed state unfinished → UnfinishedIsSealed (record state { shared = after; owns = owns }) unfinished
 unfinished_while_still state after owns None still is = tt
 unfinished_while_still state after owns (Some unfinished) still seal = sealed_while_still state.shared after unfinished.lead still seal
 
--- behind a turn of a client
+-- after a turn of a client
 moment_behind : (state : State) (who : ℕ) (after : Shared) (own_after : Own) → IsClient who → IsGoodMoment state → KeptByTurn state.shared (own_at state who) after own_after
     → IsGoodMoment (with_own (with_shared state after) own_after)
 moment_behind state who after own_after is moment kept = record {

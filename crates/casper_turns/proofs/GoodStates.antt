@@ -12,7 +12,7 @@ use Rattle.casper_model.specs.Shared.{Shared}
 use Rattle.casper_model.specs.State.{State, own_at, with_own, with_shared, start}
 use Rattle.casper_model.proofs.RunRights.{blank_at, nobody_at}
 use Rattle.casper_model.proofs.StateHistory.{set_own, other_own}
-use Rattle.casper_turns.specs.Apart.{Apart}
+use Rattle.casper_turns.specs.KeepsClient.{KeepsClient}
 use Rattle.casper_turns.specs.Good.{IsGoodShared, IsGoodWith}
 use Rattle.casper_turns.specs.GoodStates.{IsGoodState, StartIsGood, StartIsRight, GoodBehindTurn, RightBehindTurn, GoodBehindChange, RightBehindChange}
 use Rattle.casper_turns.specs.Kept.{KeptByTurn}
@@ -78,9 +78,9 @@ module _ (state : State) (who : ℕ) (after : Shared) (own_after : Own) (is : Is
     each = λ number client. by_number (IsGoodWith after) number (λ same. mine) (λ away. others number client away);
   }
 
--- the others behind a turn
+-- the others after a turn
 others_apart : (state : State) (who : ℕ) (after : Shared) (own_after : Own) → IsGoodState state → KeptByTurn state.shared (own_at state who) after own_after
-    → (number : ℕ) → number ≢ own_after.who → Apart (own_at state number).who state.shared after
+    → (number : ℕ) → number ≢ own_after.who → KeepsClient (own_at state number).who state.shared after
 others_apart state who after own_after good kept number away =
     kept.others (own_at state number).who (λ same. away (sym (good.numbers number) ∙ same ∙ sym kept.who))
 

@@ -66,7 +66,7 @@ module _ (shared : Shared) (own : Own) (act : Op) (page word value : ℕ) (can :
         (contains_push own.pending (record { op = act; page = page; word = word; value = value }) one inside);
   }
 
--- the calls behind a hit are right, where the call is
+-- the calls after a hit are right, where the call is
 reads_with_hit : (base : List (List ℕ)) (shared : Shared) (own : Own) (act : Op) (page word value : ℕ)
     → (fallen_at shared own.who ≡ None → IfRead act (value ≡ value_of base (live_entries shared.trail ++ entries_by own.who own.pending) page word))
     → ReadsAreRight base shared own → ReadsAreRight base shared (with_call own act page word value)

@@ -37,7 +37,7 @@ abbrev pub IsKept : (State → Type 0) → Type 0
 IsKept B = (state : State) (event : Event) (outside : Outside) → NamesClients event → B state → B (step state event outside).state
 
 -- what has to be shown of each kind of turn, so that every step keeps a fact P of states with a fact B. A hit may stand
--- behind an acquire in one step, and is shown from a fact A that steps are known to keep
+-- after an acquire in one step, and is shown from a fact A that steps are known to keep
 pub record KeptByTurns (A B P : State → Type 0) : Type 0 where
   pub hit : (state : State) (who : ℕ) (act : Op) (page word value : ℕ) → IsClient who → is_read_or_write act ≡ true → A state → P state
       → can_hit (own_at state who) page (right_for act) ≡ true → P (with_own state (with_call (own_at state who) act page word value))
@@ -82,7 +82,7 @@ module _ (A B P : State → Type 0) (base : IsKept A) (first : (state : State) �
   kept_acquire state who wants calls outside client live b p =
       kept_unless P state _ _ p (turns.acquiring state who wants calls client live b p)
 
-  -- the first fact behind the acquire of one page
+  -- the first fact after the acquire of one page
   base_acquired : (state : State) (who : ℕ) (want : Want) (outside : Outside) → IsClient who → is_live state.shared who ≡ true
       → nat_lt want.page state.shared.pages ≡ true → A state → A (acquire_step state who (want ∷ []) 1 outside).state
   base_acquired state who want outside client live inside b =
@@ -178,7 +178,7 @@ pub step_keeps : (A B P : State → Type 0) → IsKept A → ((state : State) �
     → (state : State) (event : Event) (outside : Outside) → NamesClients event → B state → P state → P (step state event outside).state
 step_keeps A B P base first turns state event outside named b p = kept_by_step A B P base first turns state event outside named b p
 
--- what each step keeps of states with a fact B holds behind each run, where steps keep that too
+-- what each step keeps of states with a fact B holds after each run, where steps keep that too
 pub run_keeps : (B P : State → Type 0) → IsKept B
     → ((state : State) (event : Event) (outside : Outside) → NamesClients event → B state → P state → P (step state event outside).state)
     → (state : State) (happenings : List Happening) → AllNameClients happenings → B state → P state → P (state_after state happenings)

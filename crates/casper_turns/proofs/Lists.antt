@@ -45,7 +45,7 @@ contains_filtered {X} p (first ∷ xs) x inside passes =
     ⊎_elim (λ (is : first ≡ x). absurd (true≢false (sym passes ∙ sym (ap p is) ∙ no))) (λ later. contains_filtered p xs x later passes)
     (contains_cases first xs x inside))
 
--- a filter that nothing passes, and one behind another that keeps all that passes
+-- a filter that nothing passes, and one after another that keeps all that passes
 pub filter_nothing : {X : Type 0} (test : X → Bool) (xs : List X) → ((x : X) → Contains xs x → test x ≡ true → ⊥) → filter test xs ≡ []
 filter_nothing test [] fails = refl
 filter_nothing test (x ∷ xs) fails =

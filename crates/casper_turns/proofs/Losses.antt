@@ -25,7 +25,7 @@ use Rattle.casper_model.proofs.Places.{client_each}
 use Rattle.casper_model.proofs.RoomSteps.{lose_within}
 use Rattle.casper_turns.specs.Good.{IsGoodShared, IsGoodWith}
 use Rattle.casper_turns.specs.Kept.{KeptByTurn, KeptForAll}
-use Rattle.casper_turns.specs.Still.{Still}
+use Rattle.casper_turns.specs.CommitsNothing.{CommitsNothing}
 use Rattle.casper_turns.proofs.Compose.{apart_again, still_itself, still_again, reads_while_apart}
 use Rattle.casper_turns.proofs.ForAll.{ClientStays, client_itself, kept_for_all}
 use Rattle.casper_turns.proofs.FrozenChanges.{StaysFrozen, LeavesWriteOuts}
@@ -81,14 +81,14 @@ client_rolled_back shared lost marked up who =
         (λ member. by_fallen client e member client.fallen refl) (λ out. client_itself shared.trail (Some client))
 
 -- what a loss leaves of what all know
-record Leaves (shared after : Shared) : Type 0 where
+record LossKeeps (shared after : Shared) : Type 0 where
   clients : (who : ℕ) → ClientStays shared.trail (client_at shared who) (client_at after who)
   limit : after.limit ≡ shared.limit
   pages : after.pages ≡ shared.pages
-  still : Still shared after
+  still : CommitsNothing shared after
 
 -- a rollback that ends no stabilisation that is sealed or in doubt
-still_rolled_back : (shared : Shared) (lost : ℕ) → LeavesWriteOuts shared (rolled_back shared lost) → Still shared (rolled_back shared lost)
+still_rolled_back : (shared : Shared) (lost : ℕ) → LeavesWriteOuts shared (rolled_back shared lost) → CommitsNothing shared (rolled_back shared lost)
 still_rolled_back shared lost left =
     still_left shared (rolled_back shared lost) (item.Mark (Rollback lost (association_of shared.trail lost)) ∷ []) refl refl left
     (λ one inside held who member.
@@ -100,7 +100,7 @@ still_rolled_back shared lost left =
     (λ one inside held. refl)
 
 leaves_rolled_back : (shared : Shared) (lost : ℕ) → EachFallenIsMarked shared → fallen_at shared lost ≡ None → StaysFrozen shared (rolled_back shared lost)
-    → Leaves shared (rolled_back shared lost)
+    → LossKeeps shared (rolled_back shared lost)
 leaves_rolled_back shared lost marked up stays = record {
   clients = client_rolled_back shared lost marked up;
   limit = refl;
@@ -109,10 +109,10 @@ leaves_rolled_back shared lost marked up stays = record {
 }
 
 lost_leaves : (shared : Shared) (who unrecorded : ℕ) → EachFallenIsMarked shared → fallen_at shared who ≡ None → (one : Option Stabilisation)
-    → StaysFrozen shared (lost_in shared who unrecorded one).shared → Leaves shared (lost_in shared who unrecorded one).shared
+    → StaysFrozen shared (lost_in shared who unrecorded one).shared → LossKeeps shared (lost_in shared who unrecorded one).shared
 lost_leaves shared who unrecorded marked up None stays = leaves_rolled_back shared who marked up stays
 lost_leaves shared who unrecorded marked up (Some one) stays' =
-    cond_both (is_gathering one.phase) _ _ (λ (done : Changed Loss). StaysFrozen shared done.shared → Leaves shared done.shared)
+    cond_both (is_gathering one.phase) _ _ (λ (done : Changed Loss). StaysFrozen shared done.shared → LossKeeps shared done.shared)
     (λ gathering stays. leaves_rolled_back shared who marked up stays)
     (λ held stays. record {
       clients = λ number. client_itself shared.trail (client_at shared number);
@@ -123,7 +123,7 @@ lost_leaves shared who unrecorded marked up (Some one) stays' =
     stays'
 
 lose_by_leaves : (shared : Shared) (who : ℕ) → EachFallenIsMarked shared → (fallen : Option Fallen) → fallen_at shared who ≡ fallen
-    → StaysFrozen shared (lose_by shared who fallen).shared → Leaves shared (lose_by shared who fallen).shared
+    → StaysFrozen shared (lose_by shared who fallen).shared → LossKeeps shared (lose_by shared who fallen).shared
 lose_by_leaves shared who marked (Some fallen) e stays = record {
   clients = λ number. client_itself shared.trail (client_at shared number);
   limit = refl;
@@ -137,7 +137,7 @@ module _ (shared : Shared) (who : ℕ) (good : IsGoodShared shared) (is : IsClie
   stays : StaysFrozen shared (lose shared who).shared
   stays = lose_stays shared who is good.frozen
 
-  leaves : Leaves shared (lose shared who).shared
+  leaves : LossKeeps shared (lose shared who).shared
   leaves = lose_by_leaves shared who good.marked (fallen_at shared who) refl stays
 
   pub lose_kept : KeptForAll shared (lose shared who).shared
@@ -156,7 +156,7 @@ module _ (shared : Shared) (who : ℕ) (good : IsGoodShared shared) (is : IsClie
         within = lose_within shared who good.within;
       })
 
-  pub lose_still : Still shared (lose shared who).shared
+  pub lose_still : CommitsNothing shared (lose shared who).shared
   lose_still = leaves.still
 
 -- how many calls are lost does not matter
@@ -185,7 +185,7 @@ vanish_kept shared own good mine = record {
   good = second.good;
   mine = second.mine;
   others = λ other apart. apart_again other shared lost (vanish shared own).shared (first.apart other) (second.others other apart);
-  still = still_again shared lost (vanish shared own).shared (subst (Still shared) (sym same) (lose_still shared own.who good mine.client)) second.still;
+  still = still_again shared lost (vanish shared own).shared (subst (CommitsNothing shared) (sym same) (lose_still shared own.who good mine.client)) second.still;
   right = λ base right.
       second.right base
       (record { legal = first.legal base right.legal; reads = reads_while_apart base shared lost own mine (first.apart own.who) right.reads });

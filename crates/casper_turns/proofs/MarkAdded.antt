@@ -55,7 +55,7 @@ module _ (items : List Item) (who page : ℕ) (before : WritersAreWith items pag
   writers_behind_commit lead members exact = (good_behind_commit [] items lead members exact (reader who page) good_reader).writers page reads_it
 
 -- what is no turn of a client adds at most one mark: no call of anyone, and the marks stay exact and the trail legal. For a client
--- that is not fallen behind it the open writes of a page are of its association still, and the words of the page stay
+-- that is not fallen after it the open writes of a page are of its association still, and the words of the page stay
 pub record MarkAdded (shared after : Shared) : Type 0 where
   pub more : List Item
   pub trail : after.trail ≡ shared.trail ++ more

@@ -14,7 +14,7 @@ use Rattle.casper_model.specs.Own.{Own}
 use Rattle.casper_model.specs.Both.{Changed}
 use Rattle.casper_model.specs.Stabilisation.{Stabilisation, is_gathering, without}
 use Rattle.casper_model.specs.Shared.{Shared, client_at, fallen_at, place_client}
-use Rattle.casper_model.specs.Frozen.{stabilisation_of, members_of}
+use Rattle.casper_model.specs.Frozen.{stabilisation_of, members_of_stabilisation}
 use Rattle.casper_model.specs.Leave.{absent, vanish, vanished_by}
 use Rattle.casper_model.specs.Loss.{lose, lose_by, lost_in, rolled_back, fallen_behind}
 use Rattle.casper_model.specs.Finish.{ended, committed}
@@ -81,7 +81,7 @@ pub committed_records : (shared : Shared) (one : Stabilisation) → Contains sha
 committed_records shared one inside =
     let spares : spare_marks (committed shared one).shared ≤ spare_marks shared = spares_ended shared one _ in
     let left = one_shorter (λ (other : Stabilisation). not (other.lead == one.lead)) shared.stabilisations one inside (ap not (eq-eqb one.lead one.lead refl)) in
-    let marks = marks_pushed shared.trail (Commit one.lead (members_of shared one)) in
+    let marks = marks_pushed shared.trail (Commit one.lead (members_of_stabilisation shared one)) in
     omega (arith, spares, left, marks)
 
 -- changes of the stabilisations alone

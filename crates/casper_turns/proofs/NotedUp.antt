@@ -31,7 +31,7 @@ up_still shared after notes falls up one lost inside noted =
     let early = notes one lost inside noted in
     not_fallen (fallen_at after lost) (λ fallen is. not_some fallen (sym (up early.0 lost early.1 early.3) ∙ falls lost fallen is))
 
--- behind a rollback no stabilisation of a member is left, so no noted client falls
+-- after a rollback no stabilisation of a member is left, so no noted client falls
 pub rolled_back_up : (shared : Shared) (lost : ℕ) → AreFrozen shared → NotedAreMembers shared → NotedAreUp shared → NotedAreUp (rolled_back shared lost)
 rolled_back_up shared lost frozen members up one noted_one inside noted =
     not_fallen (fallen_at (rolled_back shared lost) noted_one)

@@ -19,7 +19,7 @@ use Rattle.casper_model.specs.Rights.{Agrees}
 use Rattle.casper_model.specs.Shared.{Shared, client_at, of_client, rights_at, fallen_at}
 use Rattle.casper_model.specs.View.{seen_by}
 use Rattle.casper_model.proofs.Entries.{added_by}
-use Rattle.casper_turns.specs.Apart.{Apart}
+use Rattle.casper_turns.specs.KeepsClient.{KeepsClient}
 use Rattle.casper_turns.proofs.Lists.{filter_nothing, not_some}
 
 -- the words of a page that more entries do not write stay
@@ -31,7 +31,7 @@ words_before base before more page word elsewhere =
     ∙ ap (λ back. filter (writes_page page) before ++ back) (filter_nothing (writes_page page) more elsewhere)
     ∙ append-nil (filter (writes_page page) before))
 
--- calls and touches stand one behind the other
+-- calls and touches stand one after the other
 pub added_split : (trail : List Item) (who : ℕ) (calls : List Call) (wants : List Want)
     → trail ++ as_items (added_by who calls wants) ≡ trail ++ as_items (entries_by who calls) ++ as_items (touches_by who wants)
 added_split trail who calls wants =
@@ -58,7 +58,7 @@ pub apart_known : (who : ℕ) (shared after : Shared) (more : List Item) → aft
     → calls_of after.trail who ≡ calls_of shared.trail who → client_at after who ≡ client_at shared who
     → ((base : List (List ℕ)) (page word : ℕ) → allows (rights_at shared who) page may.Read ≡ true
     → value_of base (live_entries after.trail) page word ≡ value_of base (live_entries shared.trail) page word)
-    → Apart who shared after
+    → KeepsClient who shared after
 apart_known who shared after more grown limit pages calls same words = record {
   more = more;
   trail = grown;
@@ -86,7 +86,7 @@ apart_known who shared after more grown limit pages calls same words = record {
 
 -- and where the trail stays
 pub apart_same : (who : ℕ) (shared after : Shared) → after.trail ≡ shared.trail → after.limit ≡ shared.limit → after.pages ≡ shared.pages
-    → client_at after who ≡ client_at shared who → Apart who shared after
+    → client_at after who ≡ client_at shared who → KeepsClient who shared after
 apart_same who shared after trail limit pages same =
     apart_known who shared after [] (trail ∙ sym (append-nil shared.trail)) limit pages (ap (λ items. calls_of items who) trail) same
     (λ base page word holds. ap (λ items. value_of base (live_entries items) page word) trail)

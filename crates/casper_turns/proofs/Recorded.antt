@@ -28,7 +28,7 @@ use Rattle.casper_model.proofs.Entries.{added_by, contains_append, contains_left
 use Rattle.casper_model.proofs.ExactRuns.{exact_with_own}
 use Rattle.casper_model.proofs.FallRuns.{marked_kept, fallen_recorded}
 use Rattle.casper_model.proofs.TurnHistory.{Records, legal_recorded}
-use Rattle.casper_turns.specs.Apart.{Apart}
+use Rattle.casper_turns.specs.KeepsClient.{KeepsClient}
 use Rattle.casper_turns.specs.Good.{CapsAreFew, WritersAreWithHolders, FallenHaveNothing, IsGoodShared, IsGoodWith, MayRecord}
 use Rattle.casper_turns.specs.Kept.{KeptByTurn, OthersStay}
 use Rattle.casper_turns.proofs.Compose.{known_by_agreement}
@@ -179,7 +179,7 @@ module _ (shared : Shared) (own : Own) (after : Shared) (own_after : Own) (good 
     caps = caps_kept shared own after own_after did.keeps.others did.keeps.agrees (did.most mine.most) good.caps;
   }
 
-  apart_after : (other : ℕ) → other ≢ own.who → Apart other shared after
+  apart_after : (other : ℕ) → other ≢ own.who → KeepsClient other shared after
   apart_after other apart =
       apart_known other shared after (as_items added) did.records.trail did.limit did.pages
       (ap (λ trail. calls_of trail other) did.records.trail

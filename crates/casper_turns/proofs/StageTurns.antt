@@ -115,7 +115,7 @@ module _ (shared : Shared) (own : Own) (good : IsGoodShared shared) (mine : IsGo
     capacity = refl;
   }
 
-  -- behind that nothing is pending
+  -- after that nothing is pending
   module _ (none : own.pending ≡ []) where
     no_more : shared.trail ≡ shared.trail ++ as_items (added_by own.who own.pending [])
     no_more = sym (ap (λ calls. shared.trail ++ as_items (added_by own.who calls [])) none ∙ append-nil shared.trail)
@@ -358,7 +358,7 @@ module _ (shared : Shared) (own : Own) (good : IsGoodShared shared) (mine : IsGo
     did_stabilised None = did_stabilised_in (stabilisation_of shared own.who) refl
     did_stabilised (Some kept) = did_nothing
 
-    -- and the client is live behind each
+    -- and the client is live after each
     live_handed_in : (gathering : Option Stabilisation) → is_live (handed_in_to (both_of shared own) gathering).shared own.who ≡ true
     live_handed_in None = live
     live_handed_in (Some g) = ap is_some (known_agreed shared (handed_in (both_of shared own)).own there).live

@@ -9,7 +9,7 @@ use Rattle.casper_model.specs.Both.{Both, Turned}
 use Rattle.casper_model.specs.Client.{Client, Fallen, new_client}
 use Rattle.casper_model.specs.Join.{join, joined_by}
 use Rattle.casper_model.specs.Leave.{absent}
-use Rattle.casper_model.specs.Opening.{told}
+use Rattle.casper_model.specs.Opening.{told_of_fall}
 use Rattle.casper_model.specs.Own.{Own, blank}
 use Rattle.casper_model.specs.Rights.{Agrees}
 use Rattle.casper_model.specs.Room.{most_cap, free_room}
@@ -28,7 +28,7 @@ use Rattle.casper_turns.proofs.NotedMembers.{notes_same, notes_absent}
 use Rattle.casper_turns.proofs.Recorded.{stands_good}
 use Rattle.casper_turns.proofs.TurnFrozen.{told_stays}
 
--- nothing done, and one turn or stage behind another
+-- nothing done, and one turn or stage after another
 pub kept_itself : (shared : Shared) (own : Own) → IsGoodShared shared → IsGoodWith shared own → KeptByTurn shared own shared own
 kept_itself shared own good mine = record {
   who = refl;
@@ -54,10 +54,10 @@ kept_again shared own middle between after own_after first second = record {
 
 -- a fallen client is told
 pub kept_told : (shared : Shared) (own : Own) (fallen : Fallen) → IsGoodShared shared → IsGoodWith shared own → is_live shared own.who ≡ true
-    → fallen_at shared own.who ≡ Some fallen → KeptByTurn shared own (told shared own).shared (told shared own).own
+    → fallen_at shared own.who ≡ Some fallen → KeptByTurn shared own (told_of_fall shared own).shared (told_of_fall shared own).own
 kept_told shared own fallen good mine live e =
     let keeps = keeps_told shared own fallen (stands_good shared own good mine live) e in
-    kept_emptied shared own (told shared own).shared (told shared own).own good mine.client
+    kept_emptied shared own (told_of_fall shared own).shared (told_of_fall shared own).own good mine.client
     (record {
       trail = refl;
       limit = refl;
@@ -71,7 +71,7 @@ kept_told shared own fallen good mine live e =
       agrees = keeps.agrees;
       up = keeps.up;
       stays = told_stays shared own good.frozen;
-      notes = notes_same shared (told shared own).shared refl;
+      notes = notes_same shared (told_of_fall shared own).shared refl;
       within = told_within shared own good.within;
       most = mine.most;
     })

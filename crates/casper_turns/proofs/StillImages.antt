@@ -18,18 +18,18 @@ use Rattle.casper_space.specs.Rising.{rising}
 use Rattle.casper_model.specs.Frozen.{open_writes_of, pages_modified_by}
 use Rattle.casper_model.specs.Shared.{Shared}
 use Rattle.casper_model.specs.Stabilisation.{Stabilisation, is_gathering}
-use Rattle.casper_turns.specs.Still.{StandsStill, Still}
+use Rattle.casper_turns.specs.CommitsNothing.{StandsStill, CommitsNothing}
 
 -- whether an entry is a write by a member
 abbrev is_write_by : List ℕ → Entry → Bool
 is_write_by members entry = is_write entry.op && has_member entry.who members
 
 -- while nothing is committed the stable image stands
-pub image_while_still : (shared after : Shared) → Still shared after → (base : List (List ℕ)) → image_of base after.trail ≡ image_of base shared.trail
+pub image_while_still : (shared after : Shared) → CommitsNothing shared after → (base : List (List ℕ)) → image_of base after.trail ≡ image_of base shared.trail
 image_while_still shared after still base = ap (image_of base) still.trail ∙ image_without_commit base shared.trail still.more still.commits
 
 -- and so does the image with each association that is sealed or in doubt
-pub held_image_while_still : (shared after : Shared) → Still shared after → (one : Stabilisation) → Contains shared.stabilisations one → is_gathering one.phase ≡ false
+pub held_image_while_still : (shared after : Shared) → CommitsNothing shared after → (one : Stabilisation) → Contains shared.stabilisations one → is_gathering one.phase ≡ false
     → (base : List (List ℕ)) → image_with base after.trail one.lead ≡ image_with base shared.trail one.lead
 held_image_while_still shared after still one inside held base =
     let stands = still.held one inside held in

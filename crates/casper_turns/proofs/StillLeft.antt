@@ -25,7 +25,7 @@ use Rattle.casper_model.proofs.Entries.{added_by, writes_added}
 use Rattle.casper_model.proofs.MarkHistory.{head_of, members_are}
 use Rattle.casper_turns.specs.Frozen.{AreFrozen}
 use Rattle.casper_turns.specs.Good.{MayRecord}
-use Rattle.casper_turns.specs.Still.{Still}
+use Rattle.casper_turns.specs.CommitsNothing.{CommitsNothing}
 use Rattle.casper_turns.proofs.FrozenChanges.{IsHeldBy, LeavesWriteOuts}
 use Rattle.casper_turns.proofs.Lists.{any_none, contains_map}
 
@@ -66,7 +66,7 @@ pub still_left : (shared after : Shared) (more : List Item) → after.trail ≡ 
     → ((one : Stabilisation) → Contains shared.stabilisations one → is_gathering one.phase ≡ false → (who : ℕ)
     → has_member who (association_of shared.trail one.lead) ≡ true → fate_of who more ≡ Open)
     → ((one : Stabilisation) → Contains shared.stabilisations one → is_gathering one.phase ≡ false → list_any (is_write_of (association_of shared.trail one.lead)) more ≡ false)
-    → Still shared after
+    → CommitsNothing shared after
 still_left shared after more grown commits left decided written = record {
   more = more;
   trail = grown;
@@ -85,15 +85,15 @@ still_left shared after more grown commits left decided written = record {
   doubts = λ one inside doubtful. let was = left.were one inside doubtful in (was.0, was.1, was.3, was.2);
 }
 
-pub still_same : (shared after : Shared) → after.trail ≡ shared.trail → LeavesWriteOuts shared after → Still shared after
+pub still_same : (shared after : Shared) → after.trail ≡ shared.trail → LeavesWriteOuts shared after → CommitsNothing shared after
 still_same shared after same left =
     still_left shared after [] (same ∙ sym (append-nil shared.trail)) refl left (λ one inside held who member. refl) (λ one inside held. refl)
 
--- behind what a client records: as a member of one it may write nothing
+-- after what a client records: as a member of one it may write nothing
 pub still_recorded : (shared after : Shared) (own : Own) (wants : List Want) → after.trail ≡ shared.trail ++ as_items (added_by own.who own.pending wants)
     → AreFrozen shared → MayRecord shared.trail own
     → ((page : ℕ) → allows own.held page may.Write ≡ true → allows (rights_at shared own.who) page may.Write ≡ true)
-    → LeavesWriteOuts shared after → Still shared after
+    → LeavesWriteOuts shared after → CommitsNothing shared after
 still_recorded shared after own wants grown frozen good known left =
     still_left shared after (as_items added) grown
     (any_none is_commit (as_items added)

@@ -19,7 +19,7 @@ use Rattle.casper_trail.proofs.CallLists.{clients_of_more}
 use Rattle.casper_trail.proofs.Links.{client_at as writer_is_client}
 use Rattle.casper_trail.proofs.LinkLists.{contains_there}
 use Rattle.casper_model.specs.Acquire.{touches_by}
-use Rattle.casper_model.specs.Frozen.{is_modified_by}
+use Rattle.casper_trail.specs.Modified.{is_modified_by}
 use Rattle.casper_model.specs.LegalHistory.{right_for}
 use Rattle.casper_turns.specs.Good.{MayRecord}
 use Rattle.casper_model.specs.Own.{Own}
@@ -37,7 +37,7 @@ not_member_back items lead who is out =
     (sym (association_holds_its_client items who is) ∙ sym (ap (has_member who) (association_of_a_member items who lead found)) ∙ out))
 
 -- an open write of a page that an association has not modified is of no member
-pub writer_is_out : (items : List Item) (members : List ℕ) (page : ℕ) (write : Entry) → is_modified_by items members page ≡ false
+pub writer_is_out : (items : List Item) (members : List ℕ) (page : ℕ) (write : Entry) → is_modified_by members items page ≡ false
     → Contains (open_entries items) write → writes_page page write ≡ true → has_member write.who members ≡ false
 writer_is_out items members page write clean inside writes =
     false_from_ne_true (has_member write.who members)
@@ -49,7 +49,7 @@ writer_is_out items members page write clean inside writes =
 
 -- a touch by a client outside of an association, on a page that it has not modified, leaves it
 touch_leaves : (items : List Item) (who page lead : ℕ) → AreOfClients items → IsClient who → has_member who (association_of items lead) ≡ false
-    → is_modified_by items (association_of items lead) page ≡ false
+    → is_modified_by (association_of items lead) items page ≡ false
     → association_of (items ++ item.Entry (touch_by who page) ∷ []) lead ≡ association_of items lead
 touch_leaves items who page lead clients is out clean =
     ⊎_elim
@@ -65,7 +65,7 @@ touch_leaves items who page lead clients is out clean =
 
 -- so do touches by it
 pub touches_leave : (items : List Item) (who : ℕ) (wants : List Want) (lead : ℕ) → AreOfClients items → IsClient who → has_member who (association_of items lead) ≡ false
-    → ((want : Want) → Contains wants want → is_modified_by items (association_of items lead) want.page ≡ false)
+    → ((want : Want) → Contains wants want → is_modified_by (association_of items lead) items want.page ≡ false)
     → association_of (items ++ as_items (touches_by who wants)) lead ≡ association_of items lead
 touches_leave items who [] lead clients is out clean = ap (λ list. association_of list lead) (append-nil items)
 touches_leave items who (want ∷ wants) lead clients is out clean =

@@ -18,7 +18,7 @@ use Rattle.casper_model.specs.Both.{Both}
 use Rattle.casper_model.specs.Stabilisation.{Stabilisation, is_gathering, is_doubtful}
 use Rattle.casper_model.specs.Shared.{Shared, client_at, rights_at, of_client, each_client}
 use Rattle.casper_model.specs.Frozen.{is_member, is_modified_in}
-use Rattle.casper_model.specs.Opening.{told}
+use Rattle.casper_model.specs.Opening.{told_of_fall}
 use Rattle.casper_model.specs.Acquire.{with_asks, none_missing, is_in_doubt, refused_in_doubt, frozen_of, frozen_lead, refused_frozen, refused_pending, refused_missing, touches_by}
 use Rattle.casper_model.specs.Rights.{Agrees, AllowTheSame}
 use Rattle.casper_model.proofs.Places.{client_each}
@@ -50,9 +50,9 @@ changed_one who number change client same =
     cond_both (number == who) (change client) client (λ (after : Client). after.rights ≡ client.rights) (λ is. same) (λ is. refl)
 
 -- a client that is told that it fell
-pub told_stays : (shared : Shared) (own : Own) → AreFrozen shared → StaysFrozen shared (told shared own).shared
+pub told_stays : (shared : Shared) (own : Own) → AreFrozen shared → StaysFrozen shared (told_of_fall shared own).shared
 told_stays shared own =
-    stays_same shared (told shared own).shared refl (λ one inside. refl)
+    stays_same shared (told_of_fall shared own).shared refl (λ one inside. refl)
     (rights_each (λ number client. cond (number == own.who) (record client { kept = None; fallen = None }) client) shared
     (λ number client. changed_one own.who number (λ one. record one { kept = None; fallen = None }) client refl))
 

@@ -36,7 +36,7 @@ each_turn_keeps shared own after own_after (IsTurn.serving live) good mine = ser
 each_turn_keeps shared own after own_after (IsTurn.stabilising live) good mine = stabilise_kept shared own good mine live
 each_turn_keeps shared own after own_after (IsTurn.departing live) good mine = depart_kept shared own good mine live
 
--- the others behind a join and a departure
+-- the others after a join and a departure
 others_joined : (shared : Shared) (own : Own) (place : Option Client) → OthersStay shared own (joined_by shared own place).shared
 others_joined shared own (Some client) other apart = refl
 others_joined shared own None other apart =

@@ -4,10 +4,10 @@ use Rattle.casper_trail.specs.Legal.{IsLegal}
 use Rattle.casper_model.specs.Own.{Own}
 use Rattle.casper_model.specs.Shared.{Shared, client_at}
 use Rattle.casper_model.specs.Stabilisation.{Stabilisation, is_gathering, is_doubtful}
-use Rattle.casper_turns.specs.Apart.{Apart}
+use Rattle.casper_turns.specs.KeepsClient.{KeepsClient}
 use Rattle.casper_turns.specs.Good.{IsGoodShared, IsGoodWith}
 use Rattle.casper_turns.specs.Right.{IsRightWith}
-use Rattle.casper_turns.specs.Still.{Still, StandsStill, WasDoubtful}
+use Rattle.casper_turns.specs.CommitsNothing.{CommitsNothing, StandsStill, WasDoubtful}
 
 -- what a turn of a client keeps: the shared part is good, also with the own part that it changed; what the others may rely on
 -- stands; nothing is committed; and what was right over an array is right over it
@@ -16,8 +16,8 @@ pub record KeptByTurn (shared : Shared) (own : Own) (after : Shared) (own_after 
   pub capacity : own_after.capacity ≡ own.capacity
   pub good : IsGoodShared after
   pub mine : IsGoodWith after own_after
-  pub others : (other : ℕ) → other ≢ own.who → Apart other shared after
-  pub still : Still shared after
+  pub others : (other : ℕ) → other ≢ own.who → KeepsClient other shared after
+  pub still : CommitsNothing shared after
   pub right : (base : List (List ℕ)) → IsRightWith base shared own → IsRightWith base after own_after
 
 -- what is known to all of the other clients stays as it is
@@ -27,7 +27,7 @@ OthersStay shared own after = (other : ℕ) → other ≢ own.who → client_at 
 -- what is no turn of a client keeps: the shared part is good, what each client may rely on stands, and a legal trail is legal
 pub record KeptForAll (shared after : Shared) : Type 0 where
   pub good : IsGoodShared after
-  pub apart : (who : ℕ) → Apart who shared after
+  pub apart : (who : ℕ) → KeepsClient who shared after
   pub legal : (base : List (List ℕ)) → IsLegal base shared.trail → IsLegal base after.trail
 
 -- the trail grows at its end, each stabilisation of another lead that is sealed or in doubt stands still, and none but that of

@@ -1,4 +1,4 @@
-pub mod Apart
+pub mod KeepsClient
 pub mod Frozen
 pub mod Good
 pub mod GoodRuns
@@ -10,5 +10,5 @@ pub mod Noted
 pub mod Relying
 pub mod Right
 pub mod StageLaws
-pub mod Still
+pub mod CommitsNothing
 pub mod TurnLaws

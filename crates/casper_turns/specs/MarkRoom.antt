@@ -34,7 +34,7 @@ marks_due shared = spare_marks shared + length shared.stabilisations
 abbrev pub RecordsNoMore : Shared → Shared → Type 0
 RecordsNoMore shared after = mark_count after.trail + marks_due after ≤ mark_count shared.trail + marks_due shared
 
--- a turn of a client records no mark, so it may first make room for the marks that are due behind it
+-- a turn of a client records no mark, so it may first make room for the marks that are due after it
 abbrev pub TurnsRecordNoMark : Type 0
 TurnsRecordNoMark =
     (shared : Shared) (own : Own) (after : Shared) (own_after : Own) → IsTurn shared own after own_after → mark_count after.trail ≡ mark_count shared.trail

@@ -6,7 +6,7 @@ use Rattle.casper_model.specs.Acquire.{acquired}
 use Rattle.casper_model.specs.Both.{Both}
 use Rattle.casper_model.specs.Client.{Fallen}
 use Rattle.casper_model.specs.Leave.{absent}
-use Rattle.casper_model.specs.Opening.{told, begun, given_up, gathering_of, handed_in_to}
+use Rattle.casper_model.specs.Opening.{told_of_fall, begun, given_up, gathering_of, handed_in_to}
 use Rattle.casper_model.specs.Own.{Own}
 use Rattle.casper_model.specs.Shared.{Shared, fallen_at, is_live}
 use Rattle.casper_model.specs.Stabilisation.{Stabilisation}
@@ -43,7 +43,7 @@ EachStageKeeps =
     (shared : Shared) (own : Own) (after : Shared) (own_after : Own) → IsStage shared own after own_after → IsGoodShared shared → IsGoodWith shared own
     → KeptByTurn shared own after own_after × OthersStay shared own after
 
--- and the turn goes on behind it
+-- and the turn goes on after it
 abbrev pub EachStageGoesOn : Type 0
 EachStageGoesOn =
     (shared : Shared) (own : Own) (after : Shared) (own_after : Own) → IsStage shared own after own_after → IsGoodShared shared → IsGoodWith shared own
@@ -53,14 +53,14 @@ EachStageGoesOn =
 abbrev pub TellingKeeps : Type 0
 TellingKeeps =
     (shared : Shared) (own : Own) (fallen : Fallen) → IsGoodShared shared → IsGoodWith shared own → is_live shared own.who ≡ true
-    → fallen_at shared own.who ≡ Some fallen → KeptByTurn shared own (told shared own).shared (told shared own).own
+    → fallen_at shared own.who ≡ Some fallen → KeptByTurn shared own (told_of_fall shared own).shared (told_of_fall shared own).own
 
 abbrev pub LeavingKeeps : Type 0
 LeavingKeeps =
     (shared : Shared) (own : Own) → IsGoodShared shared → IsClient own.who
     → KeptByTurn shared own (absent (both_of shared own)).shared (absent (both_of shared own)).own
 
--- what a stage keeps and the stage behind it keeps, both keep
+-- what a stage keeps and the stage after it keeps, both keep
 abbrev pub KeptAgain : Type 0
 KeptAgain =
     (shared : Shared) (own : Own) (middle : Shared) (between : Own) (after : Shared) (own_after : Own) → KeptByTurn shared own middle between

@@ -13,7 +13,7 @@ use Rattle.casper_model.specs.Stabilisation.{Stabilisation}
 use Rattle.casper_model.specs.Stabilise.{stabilise}
 use Rattle.casper_turns.specs.Good.{IsGoodShared, IsGoodWith}
 use Rattle.casper_turns.specs.Kept.{KeptByTurn, OthersStay, KeptForAll, OtherLeadsStandStill, IsHeld}
-use Rattle.casper_turns.specs.Still.{Still}
+use Rattle.casper_turns.specs.CommitsNothing.{CommitsNothing}
 
 -- a session begins with a good shared part, also with the own part of each client
 abbrev pub StartsGood : Type 0
@@ -62,7 +62,7 @@ EachChangeKeeps = (shared after : Shared) → IsChange shared after → IsGoodSh
 
 -- by a loss nothing is committed
 abbrev pub LossIsStill : Type 0
-LossIsStill = (shared : Shared) (who : ℕ) → IsClient who → IsGoodShared shared → Still shared (lose shared who).shared
+LossIsStill = (shared : Shared) (who : ℕ) → IsClient who → IsGoodShared shared → CommitsNothing shared (lose shared who).shared
 
 -- a finish, however it ends, leaves the associations of all other leads that are sealed or in doubt, and so does a settle
 abbrev pub FinishLeavesOtherLeads : Type 0

@@ -14,7 +14,7 @@ pub fn law_of_start()
 
 /// Every turn of a client keeps the shared part good, also with the own part that it changed: a join, an acquire of any pages with
 /// room for any number of calls, a serve, a stabilise, a departure and a vanishing. What any other client may rely on stands, nothing
-/// is committed, and where the trail was legal over an array and the client's pending reads were right, they are so behind it. But
+/// is committed, and where the trail was legal over an array and the client's pending reads were right, they are so after it. But
 /// for a vanishing, what is known to all of the other clients stays as it is. It does nothing.
 pub fn law_of_turns()
     ensures kept { EachTurnKeeps }
@@ -23,7 +23,7 @@ pub fn law_of_turns()
 {}
 
 /// A turn is made of stages, and each keeps what a turn keeps: the calls are recorded and the cap topped up, pages are given up to the
-/// asks of others, pages are handed in to a gathering, wants are granted or refused, the association is frozen. Behind each the client is
+/// asks of others, pages are handed in to a gathering, wants are granted or refused, the association is frozen. After each the client is
 /// live, not fallen, and has nothing pending. So does the telling of a fallen client, and the last stage of one that leaves. What one
 /// stage keeps and the next one keeps, both keep together. It does nothing.
 pub fn law_of_stages()
@@ -55,7 +55,7 @@ pub fn law_of_hits()
     ensures silent { WriteHitIsRight }
 {}
 
-/// What a client may rely on while others act stands while nothing happens, and while one thing happens behind another. It keeps the
+/// What a client may rely on while others act stands while nothing happens, and while one thing happens after another. It keeps the
 /// client's own part good with the shared part, and its pending reads right. It does nothing.
 pub fn law_of_others()
     ensures itself { ApartItself }
@@ -64,7 +64,7 @@ pub fn law_of_others()
     ensures right { RightWhileApart }
 {}
 
-/// Nothing is committed while nothing happens, and while one thing happens behind another. So the stable image stands; and for each
+/// Nothing is committed while nothing happens, and while one thing happens after another. So the stable image stands; and for each
 /// association that is sealed or in doubt the image with it, its open writes, and the pages of its job. It does nothing.
 pub fn law_of_images_between_commits()
     ensures itself { StillItself }
@@ -75,7 +75,7 @@ pub fn law_of_images_between_commits()
     ensures job { JobWhileStill }
 {}
 
-/// A state is good where its shared part is, also with each own part. A session begins so, and so is the state behind each turn of a
+/// A state is good where its shared part is, also with each own part. A session begins so, and so is the state after each turn of a
 /// client and each change that is no turn. The same holds of a trail that is legal and pending reads that are right over the array that
 /// the session found. It does nothing.
 pub fn law_of_good_states()
@@ -96,7 +96,7 @@ pub fn law_of_good_runs()
 {}
 
 /// One mark is due for each live client that is not fallen, and one for each stabilisation. A turn of a client records none, so it may
-/// first make room for the marks that are due behind it. What is no turn of one, and a vanishing, records no more marks than it leaves
+/// first make room for the marks that are due after it. What is no turn of one, and a vanishing, records no more marks than it leaves
 /// fewer due: so where there was room for the marks that are due, no finish, settle or loss needs memory for one. It does nothing.
 pub fn law_of_marks_due()
     ensures turns { TurnsRecordNoMark }

@@ -120,7 +120,7 @@ IsStrictlyIncreasing_crew members crew =
     let P : List ℕ → Type 0 = λ xs. IsStrictlyIncreasing xs in
     subst P (sym crew.canonical) (crew_rises_counted (λ client. has_member client members) 32 refl)
 
--- a member that rises behind another is above it
+-- a member that rises after another is above it
 above_first : (first : ℕ) (members : List ℕ) → AllPairs (λ x y. x < y) (first ∷ members) → (who : ℕ) → has_member who members ≡ true → first < who
 above_first first members rise who found =
     let place = Any-from_list_any (λ member. member == who) members found in

@@ -12,23 +12,23 @@ use Rattle.std.proofs.lemmas.Slice.Eq.{bytes_eq-Decides}
 use Rattle.std.proofs.lemmas.Nat.{ones_cat}
 use Rattle.std.proofs.lemmas.Nat.Bits.{shr_and_one, bit_at-lt, bit_at_or, bit_at_set_same, bit_at_set_other, bit_at_clear_same, bit_at_clear_other, bit_at-trailing_zeros}
 use Rattle.casper_words.specs.Crew.{IsClient, clients, has_member, crew_of, IsCrew}
-use Rattle.casper_words.specs.CrewBits.{bit_test, members_of, bits_of, bits_of_members, crew_of_counted, bits_from_step, bit_test_at}
+use Rattle.casper_words.specs.CrewBits.{bit_test, members_of_bits, bits_of, bits_of_members, crew_of_counted, bits_from_step, bit_test_at}
 use Rattle.casper_words.proofs.CrewLemmas.{has_member_crew_of, crew_of_same, IsCrew_crew_of}
 
 -- what the bits of a number stand for is a crew
-pub IsCrew_members_of : (bits : ℕ) → IsCrew (members_of bits)
+pub IsCrew_members_of : (bits : ℕ) → IsCrew (members_of_bits bits)
 IsCrew_members_of bits = IsCrew_crew_of (bit_test bits)
 
-pub IsCrew_at : (bits : ℕ) (members : List ℕ) → members_of bits ≡ members → IsCrew members
+pub IsCrew_at : (bits : ℕ) (members : List ℕ) → members_of_bits bits ≡ members → IsCrew members
 IsCrew_at bits members is = let P : List ℕ → Type 0 = λ xs. IsCrew xs in subst P is (IsCrew_members_of bits)
 
 -- no bits stand for no members
-pub members_of_zero : members_of 0 ≡ []
+pub members_of_zero : members_of_bits 0 ≡ []
 unfolding crew_of clients
 members_of_zero = refl
 
 -- the bit below a client's number says whether it is a member
-pub member_from_bit : (bits who : ℕ) → IsClient who → (bit_and (bits / 2 ^ (who - 1)) 1 == 1) ≡ has_member who (members_of bits)
+pub member_from_bit : (bits who : ℕ) → IsClient who → (bit_and (bits / 2 ^ (who - 1)) 1 == 1) ≡ has_member who (members_of_bits bits)
 member_from_bit bits who client =
     ap (λ bit. bit == 1) (shr_and_one bits (who - 1)) ∙ sym (has_member_crew_of (bit_test bits) who client)
 
@@ -64,13 +64,13 @@ length_run bits place (suc count) =
     let counted : count_ones bit ≡ 0 = ap count_ones cleared ∙ ones_zero in
     omega (arith, run, step, counted))
 
-length_counted : (bits count : ℕ) → count ≡ 32 → bits < 2 ^ count → length (members_of bits) ≡ count_ones bits
+length_counted : (bits count : ℕ) → count ≡ 32 → bits < 2 ^ count → length (members_of_bits bits) ≡ count_ones bits
 length_counted bits count is below =
     ap length (crew_of_counted (bit_test bits) count is) ∙ length_run bits 0 count
     ∙ ap (λ low. count_ones (low % 2 ^ count)) (div-one bits) ∙ ap count_ones (mod-eq_of_lt below)
 
 -- there are as many members as bits that are set
-pub length_members_of : (bits : ℕ) → bits < 2 ^ 32 → length (members_of bits) ≡ count_ones bits
+pub length_members_of : (bits : ℕ) → bits < 2 ^ 32 → length (members_of_bits bits) ≡ count_ones bits
 length_members_of bits below = length_counted bits 32 refl below
 
 -- two clients with the same place of their bits are the same
@@ -101,46 +101,46 @@ and_true true = refl
 and_true false = refl
 
 -- to set a client's bit adds it
-pub members_with : (bits who : ℕ) → IsClient who → members_of (bit_or bits (1 * 2 ^ (who - 1) % 2 ^ 32)) ≡ crew_of (λ client. has_member client (members_of bits) || client == who)
+pub members_with : (bits who : ℕ) → IsClient who → members_of_bits (bit_or bits (1 * 2 ^ (who - 1) % 2 ^ 32)) ≡ crew_of (λ client. has_member client (members_of_bits bits) || client == who)
 members_with bits who known =
     let set = bit_or bits (1 * 2 ^ (who - 1) % 2 ^ 32) in
-    crew_of_same (bit_test set) (λ client. has_member client (members_of bits) || client == who)
+    crew_of_same (bit_test set) (λ client. has_member client (members_of_bits bits) || client == who)
     (λ client is_client.
-    let was : has_member client (members_of bits) ≡ bit_test bits client = has_member_crew_of (bit_test bits) client is_client in
+    let was : has_member client (members_of_bits bits) ≡ bit_test bits client = has_member_crew_of (bit_test bits) client is_client in
     elim (cases_Bool (client == who)) [
       | inl here ↦
           let same : client ≡ who = eqb-true client who here in
           let one : bit_at set (client - 1) ≡ 1 =
           ap (λ number. bit_at set (number - 1)) same ∙ bit_at_set_same w32 bits (who - 1) (place_below who known) in
           ap (λ bit. bit == 1) one
-          ∙ sym (ap (λ test. has_member client (members_of bits) || test) here ∙ or_true (has_member client (members_of bits)))
+          ∙ sym (ap (λ test. has_member client (members_of_bits bits) || test) here ∙ or_true (has_member client (members_of_bits bits)))
       | inr other ↦
           let kept : bit_at set (client - 1) ≡ bit_at bits (client - 1) =
           bit_at_set_other w32 bits (who - 1) (place_below who known) (client - 1) (apart_below client who is_client known other) in
           ap (λ bit. bit == 1) kept ∙ sym was
-          ∙ sym (ap (λ test. has_member client (members_of bits) || test) other ∙ or_false (has_member client (members_of bits)))
+          ∙ sym (ap (λ test. has_member client (members_of_bits bits) || test) other ∙ or_false (has_member client (members_of_bits bits)))
     ])
 
 -- to clear a client's bit removes it
-pub members_without : (bits who : ℕ) → IsClient who → members_of (bit_and bits (2 ^ 32 - 1 - 1 * 2 ^ (who - 1) % 2 ^ 32)) ≡ crew_of (λ client. has_member client (members_of bits) && not (client == who))
+pub members_without : (bits who : ℕ) → IsClient who → members_of_bits (bit_and bits (2 ^ 32 - 1 - 1 * 2 ^ (who - 1) % 2 ^ 32)) ≡ crew_of (λ client. has_member client (members_of_bits bits) && not (client == who))
 members_without bits who known =
     let cleared = bit_and bits (2 ^ 32 - 1 - 1 * 2 ^ (who - 1) % 2 ^ 32) in
-    crew_of_same (bit_test cleared) (λ client. has_member client (members_of bits) && not (client == who))
+    crew_of_same (bit_test cleared) (λ client. has_member client (members_of_bits bits) && not (client == who))
     (λ client is_client.
-    let was : has_member client (members_of bits) ≡ bit_test bits client = has_member_crew_of (bit_test bits) client is_client in
+    let was : has_member client (members_of_bits bits) ≡ bit_test bits client = has_member_crew_of (bit_test bits) client is_client in
     elim (cases_Bool (client == who)) [
       | inl here ↦
           let same : client ≡ who = eqb-true client who here in
           let none : bit_at cleared (client - 1) ≡ 0 =
           ap (λ number. bit_at cleared (number - 1)) same ∙ bit_at_clear_same w32 bits (who - 1) (place_below who known) in
           ap (λ bit. bit == 1) none
-          ∙ sym (ap (λ test. has_member client (members_of bits) && not test) here ∙ and_false (has_member client (members_of bits)))
+          ∙ sym (ap (λ test. has_member client (members_of_bits bits) && not test) here ∙ and_false (has_member client (members_of_bits bits)))
       | inr other ↦
           let kept : bit_at cleared (client - 1) ≡ bit_at bits (client - 1) =
           bit_at_clear_other w32 bits (who - 1) (place_below who known) (client - 1) (place_below client is_client)
           (apart_below client who is_client known other) in
           ap (λ bit. bit == 1) kept ∙ sym was
-          ∙ sym (ap (λ test. has_member client (members_of bits) && not test) other ∙ and_true (has_member client (members_of bits)))
+          ∙ sym (ap (λ test. has_member client (members_of_bits bits) && not test) other ∙ and_true (has_member client (members_of_bits bits)))
     ])
 
 max_test : (left right : ℕ) → left < 2 → right < 2 → (max left right == 1) ≡ ((left == 1) || (right == 1))
@@ -156,16 +156,16 @@ max_test left right low high =
     ]
 
 -- to join the bits joins the members
-pub members_union : (left right : ℕ) → members_of (bit_or left right) ≡ crew_of (λ client. has_member client (members_of left) || has_member client (members_of right))
+pub members_union : (left right : ℕ) → members_of_bits (bit_or left right) ≡ crew_of (λ client. has_member client (members_of_bits left) || has_member client (members_of_bits right))
 members_union left right =
-    crew_of_same (bit_test (bit_or left right)) (λ client. has_member client (members_of left) || has_member client (members_of right))
+    crew_of_same (bit_test (bit_or left right)) (λ client. has_member client (members_of_bits left) || has_member client (members_of_bits right))
     (λ client is_client.
     let place = client - 1 in
-    let on_left : has_member client (members_of left) ≡ bit_test left client = has_member_crew_of (bit_test left) client is_client in
-    let on_right : has_member client (members_of right) ≡ bit_test right client = has_member_crew_of (bit_test right) client is_client in
+    let on_left : has_member client (members_of_bits left) ≡ bit_test left client = has_member_crew_of (bit_test left) client is_client in
+    let on_right : has_member client (members_of_bits right) ≡ bit_test right client = has_member_crew_of (bit_test right) client is_client in
     ap (λ bit. bit == 1) (bit_at_or left right place)
     ∙ max_test (bit_at left place) (bit_at right place) (bit_at-lt left place) (bit_at-lt right place)
-    ∙ sym (ap (λ test. test || has_member client (members_of right)) on_left ∙ ap (λ test. bit_test left client || test) on_right))
+    ∙ sym (ap (λ test. test || has_member client (members_of_bits right)) on_left ∙ ap (λ test. bit_test left client || test) on_right))
 
 -- the first number of a range that passes a test
 pub first_of_range : (test : ℕ → Bool) (first count at : ℕ) → at < count → test (first + at) ≡ true → ((i : ℕ) → i < at → test (first + i) ≡ false) → slice_get (filter test (range_with_len first count)) 0 ≡ Some (first + at)
@@ -190,7 +190,7 @@ first_of_range test first (suc count) at within found before =
 bit_test_from : (bits place : ℕ) → bit_test bits (1 + place) ≡ (bit_at bits place == 1)
 bit_test_from bits place = let e : 1 + place - 1 ≡ place = omega arith in ap (λ at. bit_at bits at == 1) e
 
-first_counted : (bits count : ℕ) → count ≡ 32 → 0 < bits → bits < 2 ^ 32 → slice_get (members_of bits) 0 ≡ Some (trailing_zeros w32 bits + 1)
+first_counted : (bits count : ℕ) → count ≡ 32 → 0 < bits → bits < 2 ^ 32 → slice_get (members_of_bits bits) 0 ≡ Some (trailing_zeros w32 bits + 1)
 first_counted bits count is some_bit below =
     let lowest = bit_at-trailing_zeros w32 bits some_bit below in
     let place = trailing_zeros w32 bits in
@@ -203,7 +203,7 @@ first_counted bits count is some_bit below =
     ∙ ap Some moved
 
 -- the least member is the place of the lowest bit, and one
-pub first_of_members : (bits : ℕ) → 0 < bits → bits < 2 ^ 32 → slice_get (members_of bits) 0 ≡ Some (trailing_zeros w32 bits + 1)
+pub first_of_members : (bits : ℕ) → 0 < bits → bits < 2 ^ 32 → slice_get (members_of_bits bits) 0 ≡ Some (trailing_zeros w32 bits + 1)
 first_of_members bits some_bit below = first_counted bits 32 refl some_bit below
 
 trailing_of_zero : trailing_zeros w32 0 ≡ 32
@@ -211,11 +211,11 @@ unfolding count_trailing_zeros
 trailing_of_zero = refl
 
 -- the client of one more than the lowest place is the first member
-pub least_from_place : (bits : ℕ) (members : List ℕ) (result : Option ℕ) → bits < 2 ^ 32 → members_of bits ≡ members → (IsSome result ↔ ((1 ≤ trailing_zeros w32 bits + 1) × (trailing_zeros w32 bits + 1 ≤ 32))) → IfSome result (λ who. who ≡ trailing_zeros w32 bits + 1) → result ≡ slice_get members 0
+pub least_from_place : (bits : ℕ) (members : List ℕ) (result : Option ℕ) → bits < 2 ^ 32 → members_of_bits bits ≡ members → (IsSome result ↔ ((1 ≤ trailing_zeros w32 bits + 1) × (trailing_zeros w32 bits + 1 ≤ 32))) → IfSome result (λ who. who ≡ trailing_zeros w32 bits + 1) → result ≡ slice_get members 0
 least_from_place bits members None below is exactly number =
     elim (cases_order 0 bits) [
       | inl zero_bits ↦
-          sym (ap (λ xs. slice_get xs 0) (sym is ∙ ap members_of (sym zero_bits) ∙ members_of_zero))
+          sym (ap (λ xs. slice_get xs 0) (sym is ∙ ap members_of_bits (sym zero_bits) ∙ members_of_zero))
       | inr apart ↦
           let some_bit : 0 < bits = omega arith in
           let within : trailing_zeros w32 bits < 32 = (bit_at-trailing_zeros w32 bits some_bit below).0 in
@@ -238,10 +238,10 @@ none_from_first [] result first = (λ _. refl, λ _. ap is_some first)
 none_from_first (who ∷ members) result first = (λ missing. absurd (true≢false (sym (ap is_some first) ∙ missing)), λ empty. cc)
 
 -- numbers are equal exactly where the members are
-pub same_by_members : (left right : ℕ) (xs ys : List ℕ) → left < 2 ^ 32 → right < 2 ^ 32 → members_of left ≡ xs → members_of right ≡ ys → eqb left right ≡ pointwise eqb xs ys
+pub same_by_members : (left right : ℕ) (xs ys : List ℕ) → left < 2 ^ 32 → right < 2 ^ 32 → members_of_bits left ≡ xs → members_of_bits right ≡ ys → eqb left right ≡ pointwise eqb xs ys
 same_by_members left right xs ys low high on_left on_right =
     same_from_decides (eqb left right) (pointwise eqb xs ys) (
-      λ same. sym on_left ∙ ap members_of (eqb-true left right same) ∙ on_right,
+      λ same. sym on_left ∙ ap members_of_bits (eqb-true left right same) ∙ on_right,
       λ same. eq-eqb left right (sym (bits_of_members left low) ∙ ap bits_of (on_left ∙ same ∙ sym on_right) ∙ bits_of_members right high),
     )
     (bytes_eq-Decides xs ys)

@@ -13,8 +13,8 @@ abbrev pub bit_test : ℕ → ℕ → Bool
 bit_test bits who = bit_at bits (who - 1) == 1
 
 -- the crew that the bits of a number stand for
-abbrev pub members_of : ℕ → List ℕ
-members_of bits = crew_of (bit_test bits)
+abbrev pub members_of_bits : ℕ → List ℕ
+members_of_bits bits = crew_of (bit_test bits)
 
 -- the number whose bits stand for these members
 abbrev pub bits_of : List ℕ → ℕ
@@ -31,7 +31,7 @@ pub crew_of_counted : (test : ℕ → Bool) (count : ℕ) → count ≡ 32 → c
 unfolding crew_of
 crew_of_counted test count is = ap (filter test) (clients_counted count is)
 
--- the bits from a place on are the bits behind it and the bit there
+-- the bits from a place on are the bits after it and the bit there
 pub bits_from_step : (bits place count : ℕ) → bits / 2 ^ place % 2 ^ suc count ≡ bits / 2 ^ (place + 1) % 2 ^ count * 2 + bit_at bits place
 bits_from_step bits place count =
     rw (← add-one count)
@@ -65,11 +65,11 @@ bits_of_run bits place (suc count) =
     let split : all ≡ high * 2 + 0 = bits_from_step bits place count ∙ ap (λ bit. high * 2 + bit) none in
     run ∙ sym (zero-add (high * (2 ^ place * 2))) ∙ ap (λ first. first + high * (2 ^ place * 2)) (sym (zero-mul (2 ^ place))) ∙ joined all high 0 (2 ^ place) split)
 
-bits_of_counted : (bits count : ℕ) → count ≡ 32 → bits < 2 ^ count → bits_of (members_of bits) ≡ bits
+bits_of_counted : (bits count : ℕ) → count ≡ 32 → bits < 2 ^ count → bits_of (members_of_bits bits) ≡ bits
 bits_of_counted bits count is below =
     ap bits_of (crew_of_counted (bit_test bits) count is) ∙ bits_of_run bits 0 count
     ∙ (let whole : bits / 1 ≡ bits = omega arith in let same : bits % 2 ^ count ≡ bits = mod-eq_of_lt below in rw (whole, same) (mul-one bits))
 
 -- the number of a crew gives the bits back
-pub bits_of_members : (bits : ℕ) → bits < 2 ^ 32 → bits_of (members_of bits) ≡ bits
+pub bits_of_members : (bits : ℕ) → bits < 2 ^ 32 → bits_of (members_of_bits bits) ≡ bits
 bits_of_members bits below = bits_of_counted bits 32 refl below

@@ -2,11 +2,11 @@ use Rattle.std.specs.Prelude.{◌≡◌, ℕ, ◌-◌, ◌≤◌, List, ◌++◌
 use Rattle.std.proofs.Common.{arith}
 use Rattle.std.proofs.lemmas.List.{length-take-le, take-append-drop}
 
--- a list at the head of an array, and a filler in the places behind it
+-- a list at the head of an array, and a filler in the places after it
 abbrev pub padded : {X : Type 0} → ℕ → X → List X → List X
 padded size filler xs = xs ++ replicate (size - length xs) filler
 
--- an array holds a list of this length, and a filler in the places behind it
+-- an array holds a list of this length, and a filler in the places after it
 pub record IsPadded {X : Type 0} (size : ℕ) (filler : X) (places : List X) (count : ℕ) : Type 0 where
   pub long : length places ≡ size
   pub within : count ≤ size

@@ -45,7 +45,8 @@ impl Block {
     /// Writes the bytes over those from a place on, which must end within the block. Every other byte stays.
     pub fn put(&mut self, at: u32, bytes: &[u8])
         requires { at + length bytes.now ≤ 4096 }
-        ensures bytes { self.new ≡ take at self.old ++ bytes.now ++ drop (at + length bytes.now) self.old }
+        ensures bytes { self.new
+            ≡ take at self.old ++ bytes.now ++ drop (at + length bytes.now) self.old }
         ensures long { length self.old ≡ 4096 }
         ensures still_long { length self.new ≡ 4096 }
     {

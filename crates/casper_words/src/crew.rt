@@ -17,11 +17,11 @@ pub struct Crew {
 impl Model for Crew {
     ghost use Rattle.std.specs.Prelude.{List, ℕ, ◌^◌, ◌<◌};
     ghost use Rattle.std.proofs.Common.{ap};
-    ghost use Rattle.casper_words.specs.CrewBits.{members_of, bits_of, bits_of_members};
+    ghost use Rattle.casper_words.specs.CrewBits.{members_of_bits, bits_of, bits_of_members};
 
     ghost Value = { List ℕ };
 
-    ghost view = { λ crew. members_of crew.bits };
+    ghost view = { λ crew. members_of_bits crew.bits };
 
     ghost invariant = { λ crew. crew.bits < 2 ^ 32 };
 
@@ -71,7 +71,8 @@ impl Crew {
 
     /// The crew but for one client. Nothing changes where the client is no member.
     pub fn without(self, who: Who) -> Crew
-        ensures members { result ≡ crew_of (λ client. has_member client self && not (client == who)) }
+        ensures members { result
+            ≡ crew_of (λ client. has_member client self && not (client == who)) }
         ensures crew { IsCrew result }
         ensures source { IsCrew self }
         ensures client { IsClient who }
@@ -83,7 +84,8 @@ impl Crew {
 
     /// The members of either crew.
     pub fn union(self, other: Crew) -> Crew
-        ensures members { result ≡ crew_of (λ client. has_member client self || has_member client other) }
+        ensures members { result
+            ≡ crew_of (λ client. has_member client self || has_member client other) }
         ensures crew { IsCrew result }
         ensures left { IsCrew self }
         ensures right { IsCrew other }

@@ -5,9 +5,6 @@ use crate::{Block, Memory};
 use std::alloc::Global;
 use std::marker::Model;
 
-/// How many words a page has.
-pub const WORDS: u32 = 512;
-
 /// The 512 words of a page. Contracts see the list of the words.
 #[derive(Drop)]
 pub struct Frame {
@@ -25,6 +22,9 @@ impl Model for Frame {
 }
 
 impl Frame {
+    /// How many words a page has.
+    pub const WORDS: u32 = 512;
+
     /// The frame of a page that was never written.
     pub fn zero(alloc: Global) -> Result<Frame, Memory>
         ensures zero { IfOk result (λ frame. frame ≡ replicate 512 0) }
@@ -59,7 +59,7 @@ impl Frame {
         ensures long { length self.now ≡ 512 }
         ensures block_long { length into.new ≡ 4096 }
     {
-        for word in 0..WORDS {
+        for word in 0..Frame::WORDS {
             let value = self.get(word);
             into.put(8 * word, &value.to_le_bytes());
         }
@@ -72,7 +72,7 @@ impl Frame {
         ensures block_long { length from.now ≡ 4096 }
     {
         let bytes = from.bytes();
-        for word in 0..WORDS as usize {
+        for word in 0..Frame::WORDS as usize {
             let mut piece = [0; 8];
             piece.copy_from_slice(&bytes[8 * word..8 * word + 8]);
             self.words[word] = u64::from_le_bytes(piece);

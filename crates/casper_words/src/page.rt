@@ -14,6 +14,11 @@ impl Model for Page {
     ghost inverse = { λ number. record { 0 = number } };
 }
 
+impl Page {
+    /// The most pages that a store has.
+    pub const MOST: u32 = 16_384;
+}
+
 /// What a client may do with a page that it holds. To write allows to read.
 #[derive(Clone, Copy, Debug, PartialEq, Eq)]
 pub enum Right {

@@ -12,7 +12,7 @@ pub struct Wants {
     count: usize,
 }
 
-/// What stands in the places behind the list.
+/// What stands in the places after the list.
 const UNUSED: Want = Want {
     page: Page(0),
     right: Right::Read,

@@ -22,6 +22,9 @@ impl Who {
     /// The greatest number of a client.
     pub const MOST: u32 = 32;
 
+    /// How many places a list has in which each client stands at its number.
+    pub const PLACES: usize = 33;
+
     /// The client of this number, where it is from 1 to 32.
     pub fn new(number: u32) -> Option<Who>
         ensures exactly { IsSome result ↔ ((1 ≤ number) × (number ≤ 32)) }

@@ -1,13 +1,13 @@
 use Rattle.std.proofs.Common.{ℕ, ◌||◌, List, ◌∙◌, ap}
 use Rattle.casper_words.specs.Crew.{has_member, crew_of}
-use Rattle.casper_words.specs.CrewBits.{members_of}
+use Rattle.casper_words.specs.CrewBits.{members_of_bits}
 use Rattle.casper_words.proofs.CrewMembers.{members_union, IsCrew_members_of, IsCrew_at}
 use Rattle.casper_words.proofs.crew.Crew.union.Goals as goal
 
 pub returns-clause-members : goal.returns-clause-members
 returns-clause-members c =
     members_union c.self.inside.bits c.other.inside.bits
-    ∙ ap (λ (left : List ℕ). crew_of (λ client. has_member client left || has_member client (members_of c.other.inside.bits))) c.self.view_is
+    ∙ ap (λ (left : List ℕ). crew_of (λ client. has_member client left || has_member client (members_of_bits c.other.inside.bits))) c.self.view_is
     ∙ ap (λ (right : List ℕ). crew_of (λ client. has_member client c.args.self || has_member client right)) c.other.view_is
 
 pub returns-clause-crew : goal.returns-clause-crew

@@ -14,15 +14,15 @@ use Rattle.casper_model.specs.View.{seen_by}
 abbrev pub cap_at : Shared → ℕ → ℕ
 cap_at shared who = of_client 0 (λ client. client.cap) (client_at shared who)
 
--- the value of a word behind the recorded entries that a client sees
+-- the value of a word after the recorded entries that a client sees
 abbrev pub recorded_value : List (List ℕ) → Shared → ℕ → ℕ → ℕ → ℕ
 recorded_value base shared who page word = value_of base (seen_by shared (fallen_at shared who)) page word
 
 -- what a client may rely on while others act: the trail grows at its end and gets no call of this client; the client stays live
--- with its cap; where it was fallen it stays so; where it falls meanwhile, its mark stands behind the trail as it was; where it
+-- with its cap; where it was fallen it stays so; where it falls meanwhile, its mark stands after the trail as it was; where it
 -- is not fallen it keeps its asks and its rights; what is known of it agrees with the own part with which it agreed; and the
 -- words of each page that it held stay as it sees them, fallen or not
-pub record Apart (who : ℕ) (shared after : Shared) : Type 0 where
+pub record KeepsClient (who : ℕ) (shared after : Shared) : Type 0 where
   pub more : List Item
   pub trail : after.trail ≡ shared.trail ++ more
   pub limit : after.limit ≡ shared.limit

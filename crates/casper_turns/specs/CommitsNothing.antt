@@ -27,7 +27,7 @@ WasDoubtful shared one =
 
 -- nothing is committed: the trail grows by items without a commit, each stabilisation that is sealed or in doubt stands
 -- still, and none comes into doubt
-pub record Still (shared after : Shared) : Type 0 where
+pub record CommitsNothing (shared after : Shared) : Type 0 where
   pub more : List Item
   pub trail : after.trail ≡ shared.trail ++ more
   pub commits : list_any is_commit more ≡ false
