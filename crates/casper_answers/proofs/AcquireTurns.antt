@@ -336,7 +336,7 @@ module _ (state : State) (known : IsOrderly state) (who : ℕ) (wants : List Wan
       by_failed true e = disk (and_parts (is_load_failed outside) _ e).0
       by_failed false e = by_fallen (fallen_at state.shared (own_at state who).who)
 
-  -- what is lacked behind a refusal is what was missing
+  -- what is lacked after a refusal is what was missing
   pub lacked : (one : Reply) → lacking (refused_turn one).state who wants ≡ missing_once_opened state.shared (own_at state who) wants
   lacked one =
       ap (λ (x : Own). missing_of x.held wants)
@@ -349,7 +349,7 @@ module _ (state : State) (known : IsOrderly state) (who : ℕ) (wants : List Wan
       (own_here state (opened state.shared (own_at state who)).own who opened_is
       (in_owns state who (opened state.shared (own_at state who)).own known.history.order client (who_opened state.shared (own_at state who))))
 
-  -- who is touched behind a refusal, in terms of the opened part
+  -- who is touched after a refusal, in terms of the opened part
   touched_there : (one : Reply) (x : Stabilisation)
       → TouchesIn (opened state.shared (own_at state who)).shared (opened state.shared (own_at state who)).own.who (missing_once_opened state.shared (own_at state who) wants) x
       → Touches (refused_turn one).state who wants x

@@ -34,7 +34,7 @@ use Rattle.casper_model.specs.Both.{Turned}
 use Rattle.casper_model.specs.Room.{free_room}
 use Rattle.casper_model.specs.Client.{Client, Fallen}
 use Rattle.casper_model.specs.Finish.{failed, finished_as, finished_by, finish, settled_by, settled, stabilisation_led_by, doubtful_of}
-use Rattle.casper_model.specs.Frozen.{members_of}
+use Rattle.casper_model.specs.Frozen.{members_of_stabilisation}
 use Rattle.casper_model.specs.Growth.{AddsOwn}
 use Rattle.casper_model.specs.Held.{allows}
 use Rattle.casper_model.specs.Hits.{can_hit, with_call}
@@ -42,7 +42,7 @@ use Rattle.casper_model.specs.Join.{join, joined_by}
 use Rattle.casper_model.specs.Leave.{serve, departed_by, vanish, vanished_by, absent}
 use Rattle.casper_model.specs.LegalHistory.{right_for, CallIsHeld}
 use Rattle.casper_model.specs.Loss.{lose, fallen_behind}
-use Rattle.casper_model.specs.Opening.{opened, told}
+use Rattle.casper_model.specs.Opening.{opened, told_of_fall}
 use Rattle.casper_model.specs.Own.{Own, blank}
 use Rattle.casper_model.specs.Rights.{InOrder}
 use Rattle.casper_model.specs.Shared.{Shared, client_at, fallen_at, of_client, is_live}
@@ -88,7 +88,7 @@ pub place_at_end : {X : Type 0} (xs : List X) (x : X) → slice_get (xs ++ x ∷
 place_at_end [] x = refl
 place_at_end (first ∷ xs) x = place_at_end xs x
 
--- the mark of a commit, and no write of the client behind it
+-- the mark of a commit, and no write of the client after it
 pub record CoversTrail (trail : List Item) (place who : ℕ) : Type 0 where
   pub commit : HasCommitOf trail place who
   pub recorded : list_any (is_write_by who) (drop place trail) ≡ false
@@ -270,8 +270,8 @@ module _ (state : State) (well : IsAnswering state) (holds : HoldCommits state) 
       → HoldCommits (after_turn state (departed_by shared (own_at state one) fallen))
   departed_holds one live (Some fallen) e adds who place is =
       let own = own_at state one in
-      turn_holds one (told shared own).shared (told shared own).own live refl (keeps_told shared own fallen (stands_at state one order live) e).others
-      (kept_turn one (told shared own).shared (bare_told shared own (live_own one live))) adds who place is
+      turn_holds one (told_of_fall shared own).shared (told_of_fall shared own).own live refl (keeps_told shared own fallen (stands_at state one order live) e).others
+      (kept_turn one (told_of_fall shared own).shared (bare_told shared own (live_own one live))) adds who place is
   departed_holds one live None e adds who place is = by_place (cases_eq who own.who)
     where
       own : Own
@@ -400,7 +400,7 @@ module _ (state : State) (well : IsAnswering state) (holds : HoldCommits state) 
 
   -- a commit covers who waited for it: it may write no page, so it has no write pending
   commit_covers : (one : Stabilisation) (who : ℕ) → Contains shared.stabilisations one → is_gathering one.phase ≡ false → has_member who one.askers ≡ true → (next : State)
-      → own_at next who ≡ own_at state who → next.shared.trail ≡ shared.trail ++ item.Mark (Commit one.lead (members_of shared one)) ∷ []
+      → own_at next who ≡ own_at state who → next.shared.trail ≡ shared.trail ++ item.Mark (Commit one.lead (members_of_stabilisation shared one)) ∷ []
       → HoldsCommit next who (length shared.trail)
   commit_covers one who inside held asker next same marked = record {
     covers =
@@ -408,11 +408,11 @@ module _ (state : State) (well : IsAnswering state) (holds : HoldCommits state) 
         (record {
           commit = record {
             lead = one.lead;
-            members = members_of shared one;
-            stands = place_at_end shared.trail (item.Mark (Commit one.lead (members_of shared one)));
+            members = members_of_stabilisation shared one;
+            stands = place_at_end shared.trail (item.Mark (Commit one.lead (members_of_stabilisation shared one)));
             member = well.members one who inside asker;
           };
-          recorded = ap (list_any (is_write_by who)) (drop-append_seam shared.trail (item.Mark (Commit one.lead (members_of shared one)) ∷ []));
+          recorded = ap (list_any (is_write_by who)) (drop-append_seam shared.trail (item.Mark (Commit one.lead (members_of_stabilisation shared one)) ∷ []));
         });
     pending = ap (λ (x : Own). list_any (λ call. is_write call.op) x.pending) same
         ∙ any_none (λ call. is_write call.op) (own_at state who).pending (λ call found writes. no_write call (held_call call found) call.op refl writes);
@@ -448,7 +448,7 @@ module _ (state : State) (well : IsAnswering state) (holds : HoldCommits state) 
 
       by_end : (one : Stabilisation) (end : Outcome)
           → (more : List Item) × ((finished_as shared one end).shared.trail ≡ shared.trail ++ more) × (list_any (is_write_by who) more ≡ false)
-      by_end one (outcome.Ok version) = (item.Mark (Commit one.lead (members_of shared one)) ∷ [], refl, refl)
+      by_end one (outcome.Ok version) = (item.Mark (Commit one.lead (members_of_stabilisation shared one)) ∷ [], refl, refl)
       by_end one (outcome.Full need free) = by_noted one (outcome.Full need free) one.noted
       by_end one outcome.Worn = by_noted one outcome.Worn one.noted
       by_end one outcome.Disk = by_noted one outcome.Disk one.noted
@@ -465,12 +465,12 @@ module _ (state : State) (well : IsAnswering state) (holds : HoldCommits state) 
       by_found : (found : Option Stabilisation)
           → (more : List Item) × ((settled_by shared found).shared.trail ≡ shared.trail ++ more) × (list_any (is_write_by who) more ≡ false)
       by_found None = ([], sym (append-nil shared.trail), refl)
-      by_found (Some one) = (item.Mark (Commit one.lead (members_of shared one)) ∷ [], refl, refl)
+      by_found (Some one) = (item.Mark (Commit one.lead (members_of_stabilisation shared one)) ∷ [], refl, refl)
 
-  -- a finish that tells a commit has recorded its mark behind all that stood
+  -- a finish that tells a commit has recorded its mark after all that stood
   pub finish_commit : (lead : ℕ) (how : Outcome) (one : Stabilisation) (place : ℕ) → one.lead ≡ lead → Contains shared.stabilisations one
       → of_finish (finish shared lead how).reply ≡ answer.Commit place
-      → (place ≡ length shared.trail) × ((finish shared lead how).shared.trail ≡ shared.trail ++ item.Mark (Commit one.lead (members_of shared one)) ∷ [])
+      → (place ≡ length shared.trail) × ((finish shared lead how).shared.trail ≡ shared.trail ++ item.Mark (Commit one.lead (members_of_stabilisation shared one)) ∷ [])
   finish_commit lead how one place led inside tells = by_found (stabilisation_led_by shared lead) refl tells
     where
       place_of : Answer → ℕ
@@ -487,16 +487,16 @@ module _ (state : State) (well : IsAnswering state) (holds : HoldCommits state) 
       by_noted it cause (Some lost) silent told = true≢false (sym (ap is_commit told))
 
       by_end : (it : Stabilisation) (end : Outcome) → it ≡ one → of_finish (Some (finished_as shared it end).reply) ≡ answer.Commit place
-          → (place ≡ length shared.trail) × ((finished_as shared it end).shared.trail ≡ shared.trail ++ item.Mark (Commit one.lead (members_of shared one)) ∷ [])
+          → (place ≡ length shared.trail) × ((finished_as shared it end).shared.trail ≡ shared.trail ++ item.Mark (Commit one.lead (members_of_stabilisation shared one)) ∷ [])
       by_end it (outcome.Ok version) same told =
-          (sym (ap place_of told), ap (λ (x : Stabilisation). shared.trail ++ item.Mark (Commit x.lead (members_of shared x)) ∷ []) same)
+          (sym (ap place_of told), ap (λ (x : Stabilisation). shared.trail ++ item.Mark (Commit x.lead (members_of_stabilisation shared x)) ∷ []) same)
       by_end it (outcome.Full need free) same told = absurd (by_noted it (outcome.Full need free) it.noted refl told)
       by_end it outcome.Worn same told = absurd (by_noted it outcome.Worn it.noted refl told)
       by_end it outcome.Disk same told = absurd (by_noted it outcome.Disk it.noted refl told)
       by_end it outcome.Doubt same told = absurd (true≢false (sym (ap is_commit told)))
 
       by_found : (found : Option Stabilisation) → stabilisation_led_by shared lead ≡ found → of_finish (finished_by shared how found).reply ≡ answer.Commit place
-          → (place ≡ length shared.trail) × ((finished_by shared how found).shared.trail ≡ shared.trail ++ item.Mark (Commit one.lead (members_of shared one)) ∷ [])
+          → (place ≡ length shared.trail) × ((finished_by shared how found).shared.trail ≡ shared.trail ++ item.Mark (Commit one.lead (members_of_stabilisation shared one)) ∷ [])
       by_found None e told = absurd (true≢false (sym (ap is_commit told)))
       by_found (Some it) e told =
           let found = find_found (λ (x : Stabilisation). x.lead == lead) shared.stabilisations it e in
@@ -536,7 +536,7 @@ module _ (state : State) (well : IsAnswering state) (holds : HoldCommits state) 
   -- and so has a settle, for the stabilisation in doubt
   pub settle_commit : (it : Stabilisation) (place : ℕ) → Contains shared.stabilisations it → is_doubtful it.phase ≡ true
       → of_settled (settled shared).reply ≡ answer.Commit place
-      → (place ≡ length shared.trail) × ((settled shared).shared.trail ≡ shared.trail ++ item.Mark (Commit it.lead (members_of shared it)) ∷ [])
+      → (place ≡ length shared.trail) × ((settled shared).shared.trail ≡ shared.trail ++ item.Mark (Commit it.lead (members_of_stabilisation shared it)) ∷ [])
   settle_commit it place inside doubtful tells = by_found (doubtful_of shared) refl tells
     where
       place_of : Answer → ℕ
@@ -548,12 +548,12 @@ module _ (state : State) (well : IsAnswering state) (holds : HoldCommits state) 
       is_commit other = false
 
       by_found : (found : Option Stabilisation) → doubtful_of shared ≡ found → of_settled (settled_by shared found).reply ≡ answer.Commit place
-          → (place ≡ length shared.trail) × ((settled_by shared found).shared.trail ≡ shared.trail ++ item.Mark (Commit it.lead (members_of shared it)) ∷ [])
+          → (place ≡ length shared.trail) × ((settled_by shared found).shared.trail ≡ shared.trail ++ item.Mark (Commit it.lead (members_of_stabilisation shared it)) ∷ [])
       by_found None none told = absurd (true≢false (sym (ap is_commit told)))
       by_found (Some other) some told =
           let found = find_found (λ (x : Stabilisation). is_doubtful x.phase) shared.stabilisations other some in
           let same = doubtful_once state well.known other it found.0 inside found.1 doubtful in
-          (sym (ap place_of told), ap (λ (x : Stabilisation). shared.trail ++ item.Mark (Commit x.lead (members_of shared x)) ∷ []) same)
+          (sym (ap place_of told), ap (λ (x : Stabilisation). shared.trail ++ item.Mark (Commit x.lead (members_of_stabilisation shared x)) ∷ []) same)
 
   settled_holds : (one : Stabilisation) → doubtful_of shared ≡ Some one → HoldCommits (settle_turn state).state
   settled_holds one e who place is =

@@ -25,6 +25,7 @@ pub mod Aftermath
 pub mod AftermathLaws
 pub mod LivesLaws
 mod Computed
+mod RuleRows
 pub mod DoubtSteps
 pub mod AskTurns
 pub mod VaultSteps

@@ -146,7 +146,7 @@ drops_calls (item.Entry entry ∷ items) lost members who member =
         let later = uncounted (lives after) (live_entries (items ++ item.Mark (Rollback lost members) ∷ [])) e in
         omega (arith, here, opened, later, rest)
 
--- a place stands with its rollback behind more items
+-- a place stands with its rollback after more items
 pub rollback_more : (trail more : List Item) (place who dropped : ℕ) → HasRollbackOf trail place who dropped → HasRollbackOf (trail ++ more) place who dropped
 rollback_more trail more place who dropped has =
     let within = slice_get_within trail place _ has.stands in

@@ -14,7 +14,7 @@ use Rattle.casper_model.specs.Acquire.{acquired_by, answered, missing_once_opene
 use Rattle.casper_model.specs.Frozen.{stabilisation_of}
 use Rattle.casper_model.specs.Leave.{served_by}
 use Rattle.casper_model.specs.Loss.{fallen_behind}
-use Rattle.casper_model.specs.Opening.{kept_dropped, told, recorded, begun, given_up, gathering_of, handed_in, handed_in_to, opened, given_in_opening}
+use Rattle.casper_model.specs.Opening.{kept_dropped, told_of_fall, recorded, begun, given_up, gathering_of, handed_in, handed_in_to, opened, given_in_opening}
 use Rattle.casper_model.specs.Own.{Own}
 use Rattle.casper_model.specs.Rights.{TurnStands, TurnKeeps, Agrees, AgreesUnlessFallen}
 use Rattle.casper_model.specs.Room.{most_cap}
@@ -30,7 +30,7 @@ use Rattle.casper_answers.specs.Losses.{carried_out}
 
 -- What a step makes of the place of a client.
 
--- the place behind a turn of its client: it is live and not fallen, nothing is kept for it, and it is promised no more than the most
+-- the place after a turn of its client: it is live and not fallen, nothing is kept for it, and it is promised no more than the most
 pub record TurnedPlace (before after : Option Client) : Type 0 where
   pub client : Client
   pub live : after ≡ Some client
@@ -46,7 +46,7 @@ pub record StillPlace (state : State) (happened : Event) (given : Answer) (after
       → has_member who one.askers ≡ true → ⊥
   pub unfallen : (lost : ℕ) → carried_out state happened given ≡ Some lost → has_member who (association_of state.shared.trail lost) ≡ true → ⊥
 
--- the place behind a turn of its own
+-- the place after a turn of its own
 pub record OwnPlace (state : State) (happened : Event) (given : Answer) (after : Shared) (who : ℕ) : Type 0 where
   pub turned : TurnedPlace (client_at state.shared who) (client_at after who)
   pub turn : makes_turn state happened given who ≡ true
@@ -130,7 +130,7 @@ bare_agreed : (shared : Shared) (own : Own) (number : ℕ) → is_bare (client_a
 bare_agreed shared own = bare_changed own.who (λ client. record client { cap = own.cap; rights = own.held }) shared (λ client. refl)
 
 module _ (shared : Shared) (own : Own) (live : is_some (client_at shared own.who) ≡ true) where
-  pub bare_told : is_bare (client_at (told shared own).shared own.who) ≡ true
+  pub bare_told : is_bare (client_at (told_of_fall shared own).shared own.who) ≡ true
   bare_told = bare_dropped own.who (λ client. record client { kept = None; fallen = None }) shared (λ client. refl) live
 
   bare_handed_in : (both : Both) (one : Option Stabilisation) (number : ℕ) → is_bare (client_at both.shared number) ≡ true
@@ -217,7 +217,7 @@ cap_stabilised shared own None most = by_kept (kept_at shared own.who)
         by_one None = cap_opened shared own
         by_one (Some one) = cap_opened shared own
 
--- the place behind a turn
+-- the place after a turn
 pub place_of_turn : (shared : Shared) (own : Own) (after : Shared) (own_after : Own) → TurnStands shared own → TurnKeeps shared own after own_after
     → is_bare (client_at after own.who) ≡ true → (own.cap ≤ most_cap → own_after.cap ≤ most_cap) → TurnedPlace (client_at shared own.who) (client_at after own.who)
 place_of_turn shared own after own_after stands keeps bare most = by_place (client_at after own.who) refl bare keeps.up keeps.agrees

@@ -17,7 +17,7 @@ use Rattle.casper_model.specs.Answers.{of_stabilise}
 use Rattle.casper_model.specs.Both.{Both, Turned}
 use Rattle.casper_model.specs.Client.{Client, Fallen}
 use Rattle.casper_model.specs.Frozen.{is_member, stabilisation_of, pages_modified_by}
-use Rattle.casper_model.specs.Opening.{opened, told, handed_in}
+use Rattle.casper_model.specs.Opening.{opened, handed_in}
 use Rattle.casper_model.specs.Outside.{Outside}
 use Rattle.casper_model.specs.Own.{Own}
 use Rattle.casper_model.specs.Shared.{Shared, fallen_at, of_client, is_live}
@@ -145,7 +145,7 @@ module _ (state : State) (known : IsOrderly state) where
       (λ live up outcome e tells. (outcome, ap (kept_at state.shared) (sym (numbers who)) ∙ e, told_as_kept outcome))
       (λ live up none found e tells. absurd (true≢false (sym tells ∙ in_tells_nothing (opened state.shared (own_at state who)) found)))
 
-  -- the stabilisation that begins, and the one that its client belongs to, behind the turn
+  -- the stabilisation that begins, and the one that its client belongs to, after the turn
   abbrev new_one : Both → Stabilisation
   new_one both =
       let after = handed_in both in
@@ -249,7 +249,7 @@ module _ (state : State) (known : IsOrderly state) where
   never_kept : (test : Answer → Bool) → ((given : Answer) → is_under_way given ≡ false → test given ≡ false) → (outcome : Kept) → test (of_stabilise (reply_of_kept outcome)) ≡ false
   never_kept test only outcome = only (of_stabilise (reply_of_kept outcome)) (no_way_kept outcome)
 
-  -- the fact of a stabilisation behind the turn, in each case
+  -- the fact of a stabilisation after the turn, in each case
   belongs : (Is : Stabilisation → Shared → Type 0) (test : Answer → Bool) (wanted : Answer) → test wanted ≡ true → ((given : Answer) → is_under_way given ≡ false → test given ≡ false)
       → (who : ℕ) (outside : Outside) → IsClient who
       → (of_stabilise (frozen_by (opened state.shared (own_at state who))).reply ≡ wanted

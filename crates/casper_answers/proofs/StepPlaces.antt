@@ -124,7 +124,7 @@ module _ (state : State) (known : IsOrderly state) where
   abbrev shared : Shared
   shared = state.shared
 
-  -- a place that is the same behind two shared parts
+  -- a place that is the same after two shared parts
   place_as : (happened : Event) (given : Answer) (middle after : Shared) (who : ℕ) → client_at after who ≡ client_at middle who
       → PlaceMoves state happened given middle who → PlaceMoves state happened given after who
   place_as happened given middle after who same (PlaceMoves.stays it) =

@@ -134,7 +134,7 @@ module _ (state : State) (Holds : Event → Answer → Shared → Type 0) (shown
       (shown.acquiring happened who wants calls _ client live acquires
       (turns (of_reply (acquire state.shared own wants calls).reply) (acquire_is_turn state.shared own wants calls (fallen_at state.shared own.who))))
 
-  -- a call by a hit, or by an acquire and the hit behind it
+  -- a call by a hit, or by an acquire and the hit after it
   module _ (happened : Event) (who : ℕ) (act : Op) (page word : ℕ) (given : State → Answer) (value : State → ℕ) (want : Want) (outside : Outside)
       (client : IsClient who) (live : is_live state.shared who ≡ true) (acquires : Acquires who happened)
       (hits : (after : State) → is_still (given after) ≡ true) (of_turn : (after : State) → is_without_turn (given after) ≡ false)

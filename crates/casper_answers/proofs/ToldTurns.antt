@@ -24,7 +24,7 @@ use Rattle.casper_model.specs.Hits.{can_hit}
 use Rattle.casper_model.specs.Leave.{served_by, departed_by, vanish}
 use Rattle.casper_model.specs.LegalHistory.{right_for}
 use Rattle.casper_model.specs.Loss.{lose}
-use Rattle.casper_model.specs.Opening.{told, opened, given_in_opening}
+use Rattle.casper_model.specs.Opening.{told_of_fall, opened, given_in_opening}
 use Rattle.casper_model.specs.Outside.{Outside}
 use Rattle.casper_model.specs.Own.{Own}
 use Rattle.casper_model.specs.Rights.{NamesClients, Agrees, AgreesUnlessFallen}
@@ -48,7 +48,7 @@ use Rattle.casper_answers.proofs.StabiliseTurns.{by_stabilise, kept_silent, in_s
 
 -- What a client that fell is told.
 
--- a turn that tells a fall: the client was fallen so, and is up behind it
+-- a turn that tells a fall: the client was fallen so, and is up after it
 pub record TellsAFall (state : State) (who : ℕ) (turn : Turn) : Type 0 where
   pub fallen : Fallen
   pub fell : fallen_at state.shared who ≡ Some fallen
@@ -97,10 +97,10 @@ module _ (state : State) (known : IsOrderly state) (who : ℕ) (client : IsClien
   abbrev told_turn : Fallen → Turn
   told_turn fallen = record {
     answer = answer.RolledBack fallen.mark fallen.dropped (length (own_at state who).pending);
-    state = with_own (with_shared state (told state.shared (own_at state who)).shared) (told state.shared (own_at state who)).own;
+    state = with_own (with_shared state (told_of_fall state.shared (own_at state who)).shared) (told_of_fall state.shared (own_at state who)).own;
   }
 
-  -- the client behind a turn that tells it of its fall
+  -- the client after a turn that tells it of its fall
   pub told_up : (fallen : Fallen) → fallen_at state.shared (own_at state who).who ≡ Some fallen → TellsAFall state who (told_turn fallen)
   told_up fallen fell = by_place (client_at state.shared who) refl (known.history.order.rights.agree who)
     where
@@ -110,8 +110,8 @@ module _ (state : State) (known : IsOrderly state) (who : ℕ) (client : IsClien
       change : Client → Client
       change client = record client { kept = None; fallen = None }
 
-      here : own_at (told_turn fallen).state who ≡ (told state.shared (own_at state who)).own
-      here = own_here state (told state.shared (own_at state who)).own who it (in_owns state who (told state.shared (own_at state who)).own known.history.order client refl)
+      here : own_at (told_turn fallen).state who ≡ (told_of_fall state.shared (own_at state who)).own
+      here = own_here state (told_of_fall state.shared (own_at state who)).own who it (in_owns state who (told_of_fall state.shared (own_at state who)).own known.history.order client refl)
 
       by_agreement : (one : Client) (part : Own) (down : Option Fallen) → down ≡ Some fallen → AgreesUnlessFallen one part down
           → (one.rights ≡ []) × (one.asks ≡ [])
@@ -128,7 +128,7 @@ module _ (state : State) (known : IsOrderly state) (who : ℕ) (client : IsClien
             tells = refl;
             up = record {
               client = change one;
-              live = ap (client_at (told state.shared (own_at state who)).shared) (sym it)
+              live = ap (client_at (told_of_fall state.shared (own_at state who)).shared) (sym it)
                   ∙ client_changed (own_at state who).who (λ client. record client { kept = None; fallen = None }) state.shared
                   ∙ ap (option_map (λ (client : Client). record client { kept = None; fallen = None })) (ap (client_at state.shared) it ∙ e);
               up = refl;

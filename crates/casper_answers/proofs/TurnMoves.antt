@@ -18,7 +18,7 @@ use Rattle.casper_model.specs.Frozen.{is_member, stabilisation_of}
 use Rattle.casper_model.specs.Growth.{AddsOwn}
 use Rattle.casper_model.specs.Join.{joined_by}
 use Rattle.casper_model.specs.Leave.{served_by, absent, departed_by}
-use Rattle.casper_model.specs.Opening.{told, begun, given_up, gathering_of, handed_in, handed_in_to, opened, given_in_opening}
+use Rattle.casper_model.specs.Opening.{told_of_fall, begun, given_up, gathering_of, handed_in, handed_in_to, opened, given_in_opening}
 use Rattle.casper_model.specs.Own.{Own}
 use Rattle.casper_model.specs.Room.{free_room}
 use Rattle.casper_model.specs.Shared.{Shared}
@@ -146,7 +146,7 @@ module _ (state : State) (frozen : AreFrozen state.shared) (own : Own) where
       → AddsOwn own.who own.pending shared.trail (acquired_by shared own wants calls fallen).shared.trail
       → Moved state happened given (acquired_by shared own wants calls fallen).shared
   acquired_moved happened given wants calls (Some fallen) adds =
-      moved_same state happened given (told shared own).shared refl (λ lead who is. is)
+      moved_same state happened given (told_of_fall shared own).shared refl (λ lead who is. is)
   acquired_moved happened given wants calls None adds = by_refusal _ adds
     where
       by_refusal : (refusal : Option Reply)
@@ -162,7 +162,7 @@ module _ (state : State) (frozen : AreFrozen state.shared) (own : Own) where
 
   pub served_moved : (happened : Event) (given : Answer) (fallen : Option Fallen) → AddsOwn own.who own.pending shared.trail (served_by shared own fallen).shared.trail
       → Moved state happened given (served_by shared own fallen).shared
-  served_moved happened given (Some fallen) adds = moved_same state happened given (told shared own).shared refl (λ lead who is. is)
+  served_moved happened given (Some fallen) adds = moved_same state happened given (told_of_fall shared own).shared refl (λ lead who is. is)
   served_moved happened given None adds = moved_opened happened given (opened shared own).shared adds refl
 
   -- who waits with one more is the one more, or waited before
@@ -213,7 +213,7 @@ module _ (state : State) (frozen : AreFrozen state.shared) (own : Own) where
 
   pub departed_moved : (happened : Event) (given : Answer) (fallen : Option Fallen) → is_leave_of own.who happened ≡ true
       → AddsOwn own.who own.pending shared.trail (departed_by shared own fallen).shared.trail → Moved state happened given (departed_by shared own fallen).shared
-  departed_moved happened given (Some fallen) by adds = moved_same state happened given (told shared own).shared refl (λ lead who is. is)
+  departed_moved happened given (Some fallen) by adds = moved_same state happened given (told_of_fall shared own).shared refl (λ lead who is. is)
   departed_moved happened given None by adds =
       let both = opened shared own in
       moved_turn state happened given own (absent both).shared frozen (grows_by_own own.who own.pending shared (absent both).shared adds)
@@ -287,7 +287,7 @@ module _ (state : State) (frozen : AreFrozen state.shared) (own : Own) where
 
   pub stabilised_by_moved : (happened : Event) (given : Answer) (fallen : Option Fallen) → is_stabilise_of own.who happened ≡ true → is_without_turn given ≡ false → IsClient own.who
       → AddsOwn own.who own.pending shared.trail (stabilised_by shared own fallen).shared.trail → Moved state happened given (stabilised_by shared own fallen).shared
-  stabilised_by_moved happened given (Some fallen) by turn client adds = moved_same state happened given (told shared own).shared refl (λ lead who is. is)
+  stabilised_by_moved happened given (Some fallen) by turn client adds = moved_same state happened given (told_of_fall shared own).shared refl (λ lead who is. is)
   stabilised_by_moved happened given None by turn client adds = stabilised_moved happened given (kept_at shared own.who) by turn client adds
 
   pub joined_moved : (happened : Event) (given : Answer) (place : Option Client) → Moved state happened given (joined_by shared own place).shared

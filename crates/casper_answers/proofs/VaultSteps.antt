@@ -1,4 +1,4 @@
-use Rattle.std.proofs.Common.{◌≡◌, ℕ, List, [], ◌∷◌, Bool, true, false, ◌==◌, refl, sym, ap, ◌∙◌, true≢false}
+use Rattle.std.proofs.Common.{◌≡◌, ℕ, List, [], ◌∷◌, ◌==◌, refl, true≢false}
 use Rattle.std.specs.Prelude.{Option, None, Some}
 use Rattle.casper_words.specs.declared.call.Op.{Op}
 use Rattle.casper_words.specs.declared.call.Op.TheVariants as op
@@ -20,7 +20,7 @@ use Rattle.casper_model.specs.WriteOutStep.{finish_step, finish_turn}
 use Rattle.casper_model.proofs.StepRights.{hit_by}
 use Rattle.casper_laws.proofs.CompletedCalls.{guarded_turn, live_turn, within_turn, unless_turn}
 use Rattle.casper_laws.proofs.HeldWordCalls.{called}
-use Rattle.casper_answers.specs.Aftermath.{may_change_vault, LeavesTheVault}
+use Rattle.casper_answers.specs.Aftermath.{LeavesTheVault}
 
 -- What leaves the vault.
 

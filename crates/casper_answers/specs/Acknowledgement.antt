@@ -41,7 +41,7 @@ abbrev pub is_write_by : ℕ → Item → Bool
 is_write_by who (item.Entry entry) = is_write entry.op && (entry.who == who)
 is_write_by who (item.Mark mark) = false
 
--- each write that a client completed stands before a place of the trail: none stands behind it, and none is pending
+-- each write that a client completed stands before a place of the trail: none stands after it, and none is pending
 pub record HasNoWriteBehind (state : State) (place who : ℕ) : Type 0 where
   pub recorded : list_any (is_write_by who) (drop place state.shared.trail) ≡ false
   pub pending : list_any (λ call. is_write call.op) (own_at state who).pending ≡ false
@@ -84,7 +84,7 @@ TellsOnlyTheKept state =
     (who : ℕ) (outside : Outside) → IsClient who → tells_outcome (step state (event.Stabilise who) outside).answer ≡ true
     → (outcome : Kept) × (kept_at state.shared who ≡ Some outcome) × ((step state (event.Stabilise who) outside).answer ≡ answer_of_kept outcome)
 
--- a client that a stabilise tells of a commit is covered by it: behind the turn too no write of it stands behind the mark
+-- a client that a stabilise tells of a commit is covered by it: after the turn too no write of it stands after the mark
 abbrev pub TellsTrueCommits : State → Type 0
 TellsTrueCommits state =
     (who place : ℕ) (outside : Outside) → IsClient who → (step state (event.Stabilise who) outside).answer ≡ answer.Commit place

@@ -16,9 +16,9 @@ use Rattle.casper_model.specs.State.{State, own_at}
 use Rattle.casper_answers.specs.Sessions.{AtEachMoment}
 
 -- Why an acquire, also the one of a read or a write that is no hit, is answered so. A refused acquire has opened, and
--- changes nothing more but asks. So its causes are seen behind it.
+-- changes nothing more but asks. So its causes are seen after it.
 
--- the wants that a client lacks behind a refused acquire
+-- the wants that a client lacks after a refused acquire
 abbrev pub lacking : State → ℕ → List Want → List Want
 lacking state who wants = missing_of (own_at state who).held wants
 

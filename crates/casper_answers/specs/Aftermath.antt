@@ -36,7 +36,7 @@ abbrev pub StaysLive : State → Event → Outside → Turn → Type 0
 StaysLive state event outside turn =
     (who : ℕ) → is_live state.shared who ≡ true → (is_leave_of who event && is_gone turn.answer) ≡ false → is_live turn.state.shared who ≡ true
 
--- behind an acquire that is pending the asks of its client are exactly the wants that others stand in the way of
+-- after an acquire that is pending the asks of its client are exactly the wants that others stand in the way of
 abbrev pub AsksForTheBlocked : State → Type 0
 AsksForTheBlocked state =
     (who : ℕ) (blockers : List ℕ) (wants : List Want) (calls : ℕ) (outside : Outside) → IsClient who → is_live state.shared who ≡ true
@@ -45,7 +45,7 @@ AsksForTheBlocked state =
     ≡ blocked_of (acquire_step state who wants calls outside).state.shared who (given_in_opening state.shared (own_at state who))
     (lacking (acquire_step state who wants calls outside).state who wants)
 
--- behind any other, but one that met a failed disk, it has no ask
+-- after any other, but one that met a failed disk, it has no ask
 abbrev pub asks_none : Answer → Bool
 asks_none (answer.Pending blockers) = false
 asks_none answer.Disk = false

@@ -16,9 +16,9 @@ use Rattle.casper_laws.specs.Additions.{noted_by}
 -- Runs that meet what the laws suppose: a commit that is kept, losses that are noted and carried out, a client that has
 -- fallen, a gather, and a doubt.
 
--- the state behind events in which nothing fails
-abbrev pub behind : List Event → State
-behind events = state_after usual (map quiet events)
+-- the state after events in which nothing fails
+abbrev pub after : List Event → State
+after events = state_after usual (map quiet events)
 
 -- the phases of the stabilisations, and who waits for them
 abbrev pub phases_of : State → List Phase
@@ -38,36 +38,36 @@ marks_of_fall (Some fallen) = fallen.mark ∷ fallen.dropped ∷ []
 -- a client that asked has the commit kept, at the place of its mark; one that did not ask has nothing kept
 abbrev pub KeptCommit : Type 0
 KeptCommit =
-    (kept_at (behind (Join 1 ∷ Join 2 ∷ Write 1 0 0 1 ∷ Stabilise 1 ∷ WriteOut 1 ∷ Finish 1 ∷ [])).shared 1 ≡ Some (kept.Committed 2))
-    × (kept_at (behind (Join 1 ∷ Join 2 ∷ Write 1 0 0 1 ∷ Stabilise 1 ∷ WriteOut 1 ∷ Finish 1 ∷ [])).shared 2 ≡ None)
-    × (kept_at (behind (Join 1 ∷ Join 2 ∷ Write 1 0 0 1 ∷ Stabilise 1 ∷ WriteOut 1 ∷ Finish 1 ∷ Serve 1 ∷ [])).shared 1 ≡ None)
+    (kept_at (after (Join 1 ∷ Join 2 ∷ Write 1 0 0 1 ∷ Stabilise 1 ∷ WriteOut 1 ∷ Finish 1 ∷ [])).shared 1 ≡ Some (kept.Committed 2))
+    × (kept_at (after (Join 1 ∷ Join 2 ∷ Write 1 0 0 1 ∷ Stabilise 1 ∷ WriteOut 1 ∷ Finish 1 ∷ [])).shared 2 ≡ None)
+    × (kept_at (after (Join 1 ∷ Join 2 ∷ Write 1 0 0 1 ∷ Stabilise 1 ∷ WriteOut 1 ∷ Finish 1 ∷ Serve 1 ∷ [])).shared 1 ≡ None)
 
 -- a client waits from its stabilise on, while its association is sealed, and until it leaves
 abbrev pub SealedWithAsker : Type 0
 SealedWithAsker =
-    (phases_of (behind (Join 1 ∷ Write 1 0 0 1 ∷ Stabilise 1 ∷ [])) ≡ Phase.Sealed ∷ []) × (askers_of (behind (Join 1 ∷ Write 1 0 0 1 ∷ Stabilise 1 ∷ [])) ≡ (1 ∷ []) ∷ [])
-    × (askers_of (behind (Join 1 ∷ Write 1 0 0 1 ∷ Stabilise 1 ∷ Depart 1 ∷ [])) ≡ [] ∷ [])
+    (phases_of (after (Join 1 ∷ Write 1 0 0 1 ∷ Stabilise 1 ∷ [])) ≡ Phase.Sealed ∷ []) × (askers_of (after (Join 1 ∷ Write 1 0 0 1 ∷ Stabilise 1 ∷ [])) ≡ (1 ∷ []) ∷ [])
+    × (askers_of (after (Join 1 ∷ Write 1 0 0 1 ∷ Stabilise 1 ∷ Depart 1 ∷ [])) ≡ [] ∷ [])
 
 -- a loss while an association is sealed is noted, and the first one stays
 abbrev pub NotedLoss : Type 0
 NotedLoss =
-    (noted_by (behind (Join 1 ∷ Write 1 0 0 1 ∷ Stabilise 1 ∷ Lose 1 ∷ [])).shared 1 ≡ Some 1)
-    × (fallen_at (behind (Join 1 ∷ Write 1 0 0 1 ∷ Stabilise 1 ∷ Lose 1 ∷ [])).shared 1 ≡ None)
+    (noted_by (after (Join 1 ∷ Write 1 0 0 1 ∷ Stabilise 1 ∷ Lose 1 ∷ [])).shared 1 ≡ Some 1)
+    × (fallen_at (after (Join 1 ∷ Write 1 0 0 1 ∷ Stabilise 1 ∷ Lose 1 ∷ [])).shared 1 ≡ None)
 
--- a client that is declared lost has fallen by the mark behind its touch and its write
+-- a client that is declared lost has fallen by the mark after its touch and its write
 abbrev pub FallenClient : Type 0
 FallenClient =
-    (marks_of_fall (fallen_at (behind (Join 1 ∷ Write 1 0 0 1 ∷ Serve 1 ∷ Lose 1 ∷ [])).shared 1) ≡ 2 ∷ 1 ∷ [])
+    (marks_of_fall (fallen_at (after (Join 1 ∷ Write 1 0 0 1 ∷ Serve 1 ∷ Lose 1 ∷ [])).shared 1) ≡ 2 ∷ 1 ∷ [])
     × (answers_of usual (map quiet (Join 1 ∷ Write 1 0 0 1 ∷ Serve 1 ∷ Lose 1 ∷ Serve 1 ∷ []))
     ≡ answer.Joined ∷ answer.Ok ∷ answer.Ok ∷ answer.LoseLost 2 ∷ answer.RolledBack 2 1 0 ∷ [])
 
 -- an association whose other member may still write gathers, and awaits it
 abbrev pub Gather : Type 0
 Gather =
-    (phases_of (behind (Join 1 ∷ Join 2 ∷ Write 1 0 0 1 ∷ Read 2 0 0 ∷ Serve 1 ∷ Read 2 0 0 ∷ Write 2 1 0 1 ∷ Stabilise 1 ∷ [])) ≡ Phase.Gathering ∷ [])
-    × (awaited_of (behind (Join 1 ∷ Join 2 ∷ Write 1 0 0 1 ∷ Read 2 0 0 ∷ Serve 1 ∷ Read 2 0 0 ∷ Write 2 1 0 1 ∷ Stabilise 1 ∷ [])) ≡ (2 ∷ []) ∷ [])
+    (phases_of (after (Join 1 ∷ Join 2 ∷ Write 1 0 0 1 ∷ Read 2 0 0 ∷ Serve 1 ∷ Read 2 0 0 ∷ Write 2 1 0 1 ∷ Stabilise 1 ∷ [])) ≡ Phase.Gathering ∷ [])
+    × (awaited_of (after (Join 1 ∷ Join 2 ∷ Write 1 0 0 1 ∷ Read 2 0 0 ∷ Serve 1 ∷ Read 2 0 0 ∷ Write 2 1 0 1 ∷ Stabilise 1 ∷ [])) ≡ (2 ∷ []) ∷ [])
 
--- behind a write-out in doubt and its finish the association is in doubt, until a settle answers the commit
+-- after a write-out in doubt and its finish the association is in doubt, until a settle answers the commit
 abbrev pub doubted : List Happening
 doubted =
     map quiet (Join 1 ∷ Write 1 0 0 1 ∷ Stabilise 1 ∷ []) ++ record { event = WriteOut 1; outside = WriteOutDoubted } ∷ map quiet (Finish 1 ∷ [])
@@ -82,4 +82,4 @@ Doubt =
 abbrev pub PendingAsk : Type 0
 PendingAsk =
     (answers_of usual (map quiet (Join 1 ∷ Join 2 ∷ Write 1 0 0 1 ∷ Read 2 0 0 ∷ [])) ≡ answer.Joined ∷ answer.Joined ∷ answer.Ok ∷ answer.Pending (1 ∷ []) ∷ [])
-    × (map (λ ask. ask.page) (asks_at (behind (Join 1 ∷ Join 2 ∷ Write 1 0 0 1 ∷ Read 2 0 0 ∷ [])).shared 2) ≡ 0 ∷ [])
+    × (map (λ ask. ask.page) (asks_at (after (Join 1 ∷ Join 2 ∷ Write 1 0 0 1 ∷ Read 2 0 0 ∷ [])).shared 2) ≡ 0 ∷ [])

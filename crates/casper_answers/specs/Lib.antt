@@ -7,3 +7,4 @@ pub mod Losses
 pub mod Sessions
 pub mod StabiliseCauses
 pub mod WriteOutCauses
+pub mod RuleRows

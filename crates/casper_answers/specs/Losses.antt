@@ -34,7 +34,7 @@ carried_out state (event.Lose who) (answer.LoseLost mark) = Some who
 carried_out state (event.Finish lead) (answer.Undone mark) = noted_by state.shared lead
 carried_out state other given = None
 
--- behind a loss that is carried out the trail has its mark, of exactly the association. Without one it has no new rollback
+-- after a loss that is carried out the trail has its mark, of exactly the association. Without one it has no new rollback
 abbrev pub RecordsFor : Option ℕ → List Item → List Item → Type 0
 RecordsFor None before after = rollback_count after ≡ rollback_count before
 RecordsFor (Some lost) before after = after ≡ before ++ rollback_mark before lost
@@ -53,7 +53,7 @@ EndsItsOwn state event outside turn =
     (lost : ℕ) (one : Stabilisation) → carried_out state event turn.answer ≡ Some lost → Contains turn.state.shared.stabilisations one
     → has_member one.lead (association_of state.shared.trail lost) ≡ false
 
--- each live member of the association is fallen behind it, by its mark
+-- each live member of the association is fallen after it, by its mark
 abbrev pub FellsTheAssociation : State → Event → Outside → Turn → Type 0
 FellsTheAssociation state event outside turn =
     (lost who : ℕ) → carried_out state event turn.answer ≡ Some lost → has_member who (association_of state.shared.trail lost) ≡ true

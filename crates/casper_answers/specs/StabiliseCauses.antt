@@ -20,7 +20,7 @@ use Rattle.casper_answers.specs.Sessions.{AtEachMoment}
 abbrev pub BelongsTo : (Stabilisation → Type 0) → Shared → ℕ → Type 0
 BelongsTo Is shared who = (one : Stabilisation) × Contains shared.stabilisations one × (is_member shared who one ≡ true) × Is one
 
--- gathering: behind the turn the association of the client gathers, and awaits exactly these
+-- gathering: after the turn the association of the client gathers, and awaits exactly these
 abbrev pub GatheringHasItsCause : State → Type 0
 GatheringHasItsCause state =
     (who : ℕ) (awaited : List ℕ) (outside : Outside) → IsClient who → (step state (event.Stabilise who) outside).answer ≡ answer.Gathering awaited
@@ -51,7 +51,7 @@ FullJoinHasItsCause state =
     (who entries : ℕ) (outside : Outside) → IsClient who → (step state (event.Join who) outside).answer ≡ answer.TrailFull entries
     → (entries ≡ entry_count state.shared.trail) × (free_room state.shared ≡ 0)
 
--- where there is room, an absent client has joined behind its join: it is live, with the most entries promised to it, or as
+-- where there is room, an absent client has joined after its join: it is live, with the most entries promised to it, or as
 -- many as there is room for
 abbrev pub JoinsWhereThereIsRoom : State → Type 0
 JoinsWhereThereIsRoom state =

@@ -7,8 +7,8 @@ ghost use Rattle.casper_answers.specs.Losses.{EachRollbackIsOfALoss, EachLossSpa
 ghost use Rattle.casper_answers.specs.Acknowledgement.{EachKeptCommitIsTrue, EachStabiliseTellsTheKept, EachStabiliseTellsOnlyTheKept, EachToldCommitIsTrue, EachFinishedCommitHasItsMark, EachSettledCommitHasItsMark, EachAskerIsAMember, EachAskerStands, EachAskerHasNothingKept, EachAskerWaitsByItsOwn, EachAskerWaitsOn, EachUnderWayWaits, EachKeptOutcomeWasAsked, EachAskerIsTold, EachTurnDropsTheKept, OnlyTurnsDropTheKept};
 
 /// At every moment of every session a commit that is kept for a client is the place of a commit mark that has the client
-/// as a member, and none of the client's writes stands behind it, in the trail or pending. A stabilise tells a client an
-/// outcome exactly where it was kept for it, and behind a commit that it tells no write of the client stands either. A
+/// as a member, and none of the client's writes stands after it, in the trail or pending. A stabilise tells a client an
+/// outcome exactly where it was kept for it, and after a commit that it tells no write of the client stands either. A
 /// finish or a settle that answers a commit recorded its mark at this place, for the lead and exactly its association.
 /// Who waits for the outcome of a stabilisation is a member, live and not fallen, and has nothing kept; only a stabilise of
 /// its own makes it wait, and it waits on unless it leaves. What is kept is the outcome of a stabilisation that the client
@@ -34,7 +34,7 @@ pub fn law_of_acknowledgement()
 
 /// In each step of every session a rollback mark is recorded exactly where a loss is carried out: a client that has not
 /// fallen vanishes or is declared lost, or a finish carries out a loss that was noted. The mark names exactly the association.
-/// Each live member is fallen behind it, by its mark, and nobody else falls; the stabilisation of the association ends, and
+/// Each live member is fallen after it, by its mark, and nobody else falls; the stabilisation of the association ends, and
 /// each other one is as it was. A client that is told that it fell had fallen: at that place stands a rollback that names it
 /// and dropped so many of its reads and writes, and so many calls were pending. Then it is live and not fallen, with nothing
 /// held, asked, kept or pending. A loss is noted only where it is declared while the association is sealed or in doubt, and
@@ -80,7 +80,7 @@ pub fn law_of_write_outs()
 /// awaits, one that is answered that it is sealed began it with the client as the lead and counts the modified pages, and one
 /// that is answered a lead is of a member of an association that this lead is having written, or that is in doubt. A join is
 /// refused for want of room only where all the rest is promised, and tells the entries; where there is room an absent client
-/// is live behind its join, with the most entries promised to it, or as many as there is room for. It does nothing.
+/// is live after its join, with the most entries promised to it, or as many as there is room for. It does nothing.
 pub fn law_of_joins_and_stabilises()
     ensures gathering { EachGatheringHasItsCause }
     ensures sealed { EachSealedHasItsCause }
@@ -116,9 +116,9 @@ pub fn law_of_lives()
     ensures gathers { EachGatheringAwaits }
 {}
 
-/// In each step of every session a client that departs and is answered so, or that vanishes, is absent behind it, and any
-/// other that is live stays live. Behind an acquire that is pending the asks of its client are exactly the wants that others
-/// stand in the way of, and behind any other, but one that met a failed disk, it has none. What others do leaves the asks of a
+/// In each step of every session a client that departs and is answered so, or that vanishes, is absent after it, and any
+/// other that is live stays live. After an acquire that is pending the asks of its client are exactly the wants that others
+/// stand in the way of, and after any other, but one that met a failed disk, it has none. What others do leaves the asks of a
 /// client, unless it falls. At every moment at most 4,100 entries are promised to a client. Only a write-out and a settle
 /// change the vault. It does nothing.
 pub fn law_of_places()
