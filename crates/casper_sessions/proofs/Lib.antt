@@ -1,0 +1,4 @@
+pub mod Stops
+pub mod ClosedParts
+pub mod Chains
+pub mod ChainRows

@@ -1,0 +1,5 @@
+pub mod Moments
+pub mod Found
+pub mod Chain
+pub mod StopLaws
+pub mod ChainRows
