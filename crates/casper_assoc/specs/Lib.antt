@@ -1,0 +1,4 @@
+pub mod Labelling
+pub mod PartLaws
+pub mod TrailLabels
+pub mod Written

@@ -1,0 +1,4 @@
+pub mod AskerLaws
+pub mod Bookkeeping
+pub mod FinishLaws
+pub mod GatherLaws
