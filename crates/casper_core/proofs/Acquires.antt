@@ -19,14 +19,14 @@ use Rattle.casper_model.specs.Run.{is_disk}
 use Rattle.casper_hub.specs.HubView.{HubView}
 use Rattle.casper_hub.specs.Owned.{Owns, own_of}
 use Rattle.casper_hub.specs.Sound.{IsSound}
-use Rattle.casper_hub.specs.Apart.{Apart}
+use Rattle.casper_hub.specs.GoesOn.{KeepsClient}
 use Rattle.casper_hub.specs.Words.{FramesAreRight, CacheIsRight}
 use Rattle.casper_hub.specs.Turns.{IsTurn, IsLoad, Acquires}
-use Rattle.casper_core.specs.Acting.{Leaves, Holds}
+use Rattle.casper_core.specs.Acting.{KeepsHubRight, Holds}
 use Rattle.casper_core.specs.Loading.{OnlyLoads, LoadFails, AreStored}
-use Rattle.casper_core.proofs.Loads.{shows_loaded, apart_loaded, owns_loaded, right_loaded, stored_loaded, loads_again, found_among, found_some, is_unframed}
-use Rattle.casper_hub.proofs.Relying.{apart_again}
-use Rattle.casper_hub.proofs.Witness.{some_shared, some_shows}
+use Rattle.casper_core.proofs.Loads.{shows_loaded, kept_loaded, owns_loaded, right_loaded, stored_loaded, loads_again, found_among, found_some, is_unframed}
+use Rattle.casper_hub.proofs.StandsFor.{stands_for}
+use Rattle.casper_hub.proofs.Relying.{kept_again}
 
 -- A turn leaves the capacity of its client's cache.
 
@@ -98,9 +98,9 @@ pub record IsWanted (hub : HubView) (wants : List Want) (page : ℕ) : Type 0 wh
 pub page_wanted : (hub : HubView) (own : cache.Own) (wants : List Want) (calls page marks : ℕ) (after : HubView) (own_after : cache.Own)
     → IsSound hub → IsLoad hub own wants calls page marks after own_after → IsWanted hub wants page
 page_wanted hub own wants calls page marks after own_after sound load =
-    let shown = some_shows hub sound in
-    let first = load.first (some_shared hub) shown in
-    let found = found_among (is_unframed hub) (λ want. not (allows (opened (some_shared hub) (own_of own)).own.held want.page want.right)) wants first.0 first.1.0 in
+    let shown = (stands_for hub sound.stands).shows in
+    let first = load.first (stands_for hub sound.stands).shared shown in
+    let found = found_among (is_unframed hub) (λ want. not (allows (opened (stands_for hub sound.stands).shared (own_of own)).own.held want.page want.right)) wants first.0 first.1.0 in
     record { want = first.0; among = found.0; is = first.1.1; unframed = found.1 }
 
 -- the hub and the cache where the load failed
@@ -118,19 +118,19 @@ load_fails hub middle own wants calls page marks after own_after behind loads al
 -- loads leave what a turn leaves
 pub leaves_loaded : (who : ℕ) (tells : Bool) (image : List (List ℕ)) (hub : HubView) (own : cache.Own) (after : HubView) → OnlyLoads hub after → IsSound after
     → (IsTrue tells → (base : List (List ℕ)) → AreStored base hub image → FramesAreRight base hub → FramesAreRight base after)
-    → Leaves who tells image hub own after
+    → KeepsHubRight who tells image hub own after
 leaves_loaded who tells image hub own after loads sound frames = record {
   sound = sound;
-  others = λ other away. apart_loaded other hub after loads;
+  others = λ other away. kept_loaded other hub after loads;
   frames = λ told base stored right words. frames told base stored right;
 }
 
 pub capacity_of : (hub : HubView) (own : cache.Own) (wants : List Want) (calls : ℕ) (reply : Reply) (after : HubView) (own_after : cache.Own) → IsSound hub
     → IsTurn (λ shared own. acquire shared own wants calls) reply hub own after own_after → own_after.capacity ≡ own.capacity
 capacity_of hub own wants calls reply after own_after sound turn =
-    ap (λ (one : Own). one.capacity) (turn.owns (some_shared hub) (some_shows hub sound)) ∙ acquire_capacity (some_shared hub) (own_of own) wants calls
+    ap (λ (one : Own). one.capacity) (turn.owns (stands_for hub sound.stands).shared ((stands_for hub sound.stands).shows)) ∙ acquire_capacity (stands_for hub sound.stands).shared (own_of own) wants calls
 
--- what stands behind some loads
+-- what stands after some loads
 pub record IsBehind (tells : Bool) (image : List (List ℕ)) (hub after : HubView) : Type 0 where
   pub loads : OnlyLoads hub after
   pub sound : IsSound after
@@ -154,7 +154,7 @@ behind_load tells image again hub middle asked after behind same told loads soun
     }
 
 pub leaves_behind : (who : ℕ) (tells : Bool) (image : List (List ℕ)) (hub : HubView) (own : cache.Own) (after : HubView) → IsBehind tells image hub after
-    → Leaves who tells image hub own after
+    → KeepsHubRight who tells image hub own after
 leaves_behind who tells image hub own after behind = leaves_loaded who tells image hub own after behind.loads behind.sound behind.frames
 
 pub holds_behind : (who : ℕ) (tells : Bool) (image : List (List ℕ)) (hub : HubView) (own : cache.Own) (after : HubView) (own_after : cache.Own)
@@ -168,20 +168,20 @@ holds_behind who tells image hub own after own_after behind owns client same =
       words = λ told base stored frames words. right_loaded base hub after own behind.loads words;
     })
 
--- a turn behind some loads
+-- a turn after some loads
 pub record IsTurnBehind (who : ℕ) (middle : HubView) (own : cache.Own) (after : HubView) (own_after : cache.Own) : Type 0 where
   pub client : own_after.client ≡ who
   pub owned : Owns after own_after
-  pub others : (other : ℕ) → other ≢ who → Apart other middle after
+  pub others : (other : ℕ) → other ≢ who → KeepsClient other middle after
   pub sound : IsSound after
   pub frames : (base : List (List ℕ)) → FramesAreRight base middle → CacheIsRight base middle own → FramesAreRight base after
   pub words : (base : List (List ℕ)) → FramesAreRight base middle → CacheIsRight base middle own → CacheIsRight base after own_after
 
 pub turn_leaves : (who : ℕ) (tells : Bool) (image : List (List ℕ)) (hub middle : HubView) (own : cache.Own) (after : HubView) (own_after : cache.Own)
-    → IsBehind tells image hub middle → IsTurnBehind who middle own after own_after → Leaves who tells image hub own after
+    → IsBehind tells image hub middle → IsTurnBehind who middle own after own_after → KeepsHubRight who tells image hub own after
 turn_leaves who tells image hub middle own after own_after behind turn = record {
   sound = turn.sound;
-  others = λ other away. apart_again other hub middle after (apart_loaded other hub middle behind.loads) (turn.others other away);
+  others = λ other away. kept_again other hub middle after (kept_loaded other hub middle behind.loads) (turn.others other away);
   frames = λ told base stored frames words. turn.frames base (behind.frames told base stored frames) (right_loaded base hub middle own behind.loads words);
 }
 

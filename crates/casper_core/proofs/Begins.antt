@@ -18,9 +18,9 @@ use Rattle.casper_hub.specs.Shows.{Shows}
 use Rattle.casper_hub.specs.Sound.{IsSound as Whole}
 use Rattle.casper_hub.specs.Words.{FramesAreRight}
 use Rattle.casper_core.specs.CoreView.{CoreView, cache_at}
-use Rattle.casper_core.specs.Shaped.{HasShapeOf}
+use Rattle.casper_core.specs.Shaped.{RepresentsButWords}
 use Rattle.casper_core.specs.Sound.{IsSound}
-use Rattle.casper_core.specs.Stands.{own_part, Stands}
+use Rattle.casper_core.specs.Represents.{own_part, Represents}
 
 -- A core as its session begins.
 
@@ -50,11 +50,11 @@ module _ {V : Type 0} (core : CoreView V) (whole : Whole core.hub) (empty : core
       get_or-map-range_with_len (λ one. machine.blank one core.capacity) 0 33 who who (machine.blank who 0) below (omega arith)
       ∙ ap (own_part core.capacity who) (sym (none_at who))
 
-  pub shape_new : (limit : ℕ) → Shows (new_shared core.size limit) core.hub → HasShapeOf (start core.told core.size limit core.capacity) core
+  pub shape_new : (limit : ℕ) → Shows (new_shared core.size limit) core.hub → RepresentsButWords (start core.told core.size limit core.capacity) core
   shape_new limit shows = record { shared = shows; places = refl; owns = owns_new limit }
 
   pub stands_new : (limit : ℕ) → Shows (new_shared core.size limit) core.hub → ((base : List (List ℕ)) → FramesAreRight base core.hub) → core.hub.trail ≡ []
-      → ((page : ℕ) → page < core.size → length (page_at core.told.image page) ≡ 512) → Stands (start core.told core.size limit core.capacity) core
+      → ((page : ℕ) → page < core.size → length (page_at core.told.image page) ≡ 512) → Represents (start core.told core.size limit core.capacity) core
   stands_new limit shows frames trail filled = record {
     parts = record {
       shared = shows;

@@ -22,15 +22,15 @@ use Rattle.casper_hub.specs.Sound.{IsSound}
 use Rattle.casper_hub.specs.Words.{CacheIsRight}
 use Rattle.casper_laws.proofs.AnswerLaws.{acquired_has}
 use Rattle.casper_laws.proofs.AnswerLawsCalls.{can_with}
-use Rattle.casper_hub.proofs.Relying.{apart_itself}
-use Rattle.casper_hub.proofs.Witness.{some_shared, some_shows}
-use Rattle.casper_core.specs.Acting.{outside_of, IsPart, Gives, Holds, Leaves}
+use Rattle.casper_hub.proofs.StandsFor.{stands_for}
+use Rattle.casper_hub.proofs.Relying.{kept_itself}
+use Rattle.casper_core.specs.Acting.{outside_of, IsPart, IsTurnResult, Holds, KeepsHubRight}
 use Rattle.casper_core.specs.Loading.{LoadFails, Acquired}
 use Rattle.casper_core.specs.Shaped.{IsShape, read_with}
 use Rattle.casper_core.proofs.MachineTurns.{called_gives, gives_by, gives_again, acquired_gives, failed_gives}
 use Rattle.casper_core.proofs.HitTurns.{Sees}
 
--- A call as a hit, or by an acquire and the hit behind it.
+-- A call as a hit, or by an acquire and the hit after it.
 
 pub sees_part : (who : ℕ) (image : List (List ℕ)) (state : State) (hub : HubView) (own : cache.Own) → IsPart who image state hub own → Owns hub own → own.client ≡ who → Sees who state hub own
 sees_part who image state hub own part owns client = record {
@@ -45,9 +45,9 @@ sees_part who image state hub own part owns client = record {
 pub shape_of_part : (who : ℕ) (image : List (List ℕ)) (state : State) (hub : HubView) (own : cache.Own) → IsPart who image state hub own → IsShape who state hub own
 shape_of_part who image state hub own part = record { shared = part.shared; place = part.place; part = part.part }
 
--- behind a turn of a client that leaves it its cache
+-- after a turn of a client that leaves it its cache
 pub sees_behind : (who : ℕ) (tells : Bool) (image : List (List ℕ)) (state : State) (hub : HubView) (own : cache.Own) (turn : Turn) (answer : Answer) (after : HubView) (own_after : cache.Own)
-    → IsTrue tells → IsPart who image state hub own → Gives who state turn answer after (own_of own_after) → Holds who tells image hub own after own_after → Sees who turn.state after own_after
+    → IsTrue tells → IsPart who image state hub own → IsTurnResult who state turn answer after (own_of own_after) → Holds who tells image hub own after own_after → Sees who turn.state after own_after
 sees_behind who tells image state hub own turn answer after own_after told part gives holds = record {
   shared = gives.shared;
   place = subst (λ count. who < count) (sym gives.places) part.place;
@@ -58,8 +58,8 @@ sees_behind who tells image state hub own turn answer after own_after told part 
 }
 
 module _ (who : ℕ) (want : Want) (hit : State → Option Turn) (state : State) where
-  pub call_hits : (outside : Outside) (turn : Turn) (answer : Answer) (hub : HubView) (own : machine.Own) → hit state ≡ Some turn → Gives who state turn answer hub own
-      → Gives who state (call_step state who want outside hit) answer hub own
+  pub call_hits : (outside : Outside) (turn : Turn) (answer : Answer) (hub : HubView) (own : machine.Own) → hit state ≡ Some turn → IsTurnResult who state turn answer hub own
+      → IsTurnResult who state (call_step state who want outside hit) answer hub own
   call_hits outside turn answer hub own is gives =
       gives_by who state (call_step state who want outside hit) turn answer hub own (ap (call_by state who want outside hit) is) gives
 
@@ -74,7 +74,7 @@ module _ (who : ℕ) (want : Want) (hit : State → Option Turn) (state : State)
   -- the acquire was refused
   pub call_refused : (hub : HubView) (own : cache.Own) (one : Reply) (after : HubView) (own_after : cache.Own) → hit state ≡ None
       → IsShape who state hub own → Acquired hub own (want ∷ []) 1 (Some one) after own_after → own_after.client ≡ who → is_granted (of_reply one) ≡ false
-      → Gives who state (call_step state who want NothingFailed hit) (of_reply one) after (own_of own_after)
+      → IsTurnResult who state (call_step state who want NothingFailed hit) (of_reply one) after (own_of own_after)
   call_refused hub own one after own_after is shape acquired client refused =
       let gives = acquired_gives who state hub own (want ∷ []) 1 one after own_after shape acquired client in
       gives_by who state (call_step state who want NothingFailed hit) (acquire_step state who (want ∷ []) 1 NothingFailed) (of_reply one) after (own_of own_after)
@@ -83,7 +83,7 @@ module _ (who : ℕ) (want : Want) (hit : State → Option Turn) (state : State)
   -- a page could not be read
   pub call_failed : (hub : HubView) (own : cache.Own) (after : HubView) (own_after : cache.Own) → hit state ≡ None
       → IsShape who state hub own → LoadFails hub own (want ∷ []) 1 after own_after
-      → Gives who state (call_step state who want LoadFailed hit) answer.Disk after (own_of own_after)
+      → IsTurnResult who state (call_step state who want LoadFailed hit) answer.Disk after (own_of own_after)
   call_failed hub own after own_after is shape fails =
       let gives = failed_gives who state hub own (want ∷ []) 1 after own_after shape fails in
       gives_by who state (call_step state who want LoadFailed hit) (acquire_step state who (want ∷ []) 1 LoadFailed) answer.Disk after (own_of own_after)
@@ -93,10 +93,10 @@ module _ (who : ℕ) (want : Want) (hit : State → Option Turn) (state : State)
   pub call_granted : (hub : HubView) (own : cache.Own) (one : Reply) (after : HubView) (own_after : cache.Own) (answer : Answer) (own_hit : cache.Own) → hit state ≡ None
       → IsShape who state hub own → Acquired hub own (want ∷ []) 1 (Some one) after own_after → one ≡ reply.Granted
       → own_after.client ≡ who → own_hit.client ≡ who
-      → (Gives who state (acquire_step state who (want ∷ []) 1 NothingFailed) (of_reply one) after (own_of own_after)
+      → (IsTurnResult who state (acquire_step state who (want ∷ []) 1 NothingFailed) (of_reply one) after (own_of own_after)
       → hit (acquire_step state who (want ∷ []) 1 NothingFailed).state
       ≡ Some (record { answer = answer; state = with_own (acquire_step state who (want ∷ []) 1 NothingFailed).state (own_of own_hit) }))
-      → Gives who state (call_step state who want NothingFailed hit) answer after (own_of own_hit)
+      → IsTurnResult who state (call_step state who want NothingFailed hit) answer after (own_of own_hit)
   call_granted hub own one after own_after answer own_hit is shape acquired granted client_after client hits =
       let turn = acquire_step state who (want ∷ []) 1 NothingFailed in
       let gives = acquired_gives who state hub own (want ∷ []) 1 one after own_after shape acquired client_after in
@@ -108,21 +108,21 @@ module _ (who : ℕ) (want : Want) (hit : State → Option Turn) (state : State)
       ∙ ap (λ found. unwrap_or found turn) (hits gives))
       (gives_again who state turn last (of_reply one) answer after after (own_of own_after) (own_of own_hit) gives called)
 
--- behind an acquire of a page that was granted the call can be made
+-- after an acquire of a page that was granted the call can be made
 pub granted_can : (hub : HubView) (own : cache.Own) (want : Want) (one : Reply) (after : HubView) (own_after : cache.Own) → one ≡ reply.Granted → IsSound hub
     → Acquired hub own (want ∷ []) 1 (Some one) after own_after → can_hit (own_of own_after) want.page want.right ≡ true
 granted_can hub own want one after own_after granted sound acquired =
-    let shared = some_shared hub in
-    let shown = some_shows hub sound in
+    let shared = (stands_for hub sound.stands).shared in
+    let shown = (stands_for hub sound.stands).shows in
     let turn = acquired.0 in
     subst (λ (part : machine.Own). can_hit part want.page want.right ≡ true) (sym (turn.owns shared shown))
     (can_with _ want (acquired_has shared (own_of own) (want ∷ []) 1 (fallen_at shared (own_of own).who) (ap of_reply (sym (turn.replies shared shown) ∙ granted))))
 
 -- what a hit leaves of the hub, and what it leaves the client
-pub leaves_hit : (who : ℕ) (tells : Bool) (image : List (List ℕ)) (hub : HubView) (own : cache.Own) → IsSound hub → Leaves who tells image hub own hub
+pub leaves_hit : (who : ℕ) (tells : Bool) (image : List (List ℕ)) (hub : HubView) (own : cache.Own) → IsSound hub → KeepsHubRight who tells image hub own hub
 leaves_hit who tells image hub own sound = record {
   sound = sound;
-  others = λ other away. apart_itself other hub;
+  others = λ other away. kept_itself other hub;
   frames = λ told base stored frames words. frames;
 }
 
@@ -159,10 +159,10 @@ never_disk one said tells is disk = true≢false (sym (ap is_disk (sym is ∙ di
 
 -- a turn by what its answer says of the outside
 pub as_answered : (who : ℕ) (state : State) (turn : Outside → Turn) (one : Reply) (said : Answer) (hub : HubView) (own : machine.Own) → is_disk (of_reply one) ≡ false → said ≡ of_reply one
-    → Gives who state (turn NothingFailed) (of_reply one) hub own → Gives who state (turn (outside_of said)) said hub own
+    → IsTurnResult who state (turn NothingFailed) (of_reply one) hub own → IsTurnResult who state (turn (outside_of said)) said hub own
 as_answered who state turn one said hub own tells is gives =
-    subst (λ answer. Gives who state (turn (outside_of answer)) answer hub own) (sym is)
-    (subst (λ disk. Gives who state (turn (cond disk LoadFailed NothingFailed)) (of_reply one) hub own) (sym tells) gives)
+    subst (λ answer. IsTurnResult who state (turn (outside_of answer)) answer hub own) (sym is)
+    (subst (λ disk. IsTurnResult who state (turn (cond disk LoadFailed NothingFailed)) (of_reply one) hub own) (sym tells) gives)
 
 -- a read that was answered with a reply of its acquire is the machine's
 pub read_refused : (who page word : ℕ) (state : State) (one : Reply) (said : Answer) → said ≡ of_reply one → read_with who page word said state ≡ read_turn who page word (outside_of said) state

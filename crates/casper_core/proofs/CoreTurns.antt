@@ -19,14 +19,14 @@ use Rattle.casper_model.specs.Vault.{VaultState}
 use Rattle.casper_model.proofs.StepAdditions.{step_adds}
 use Rattle.casper_hub.specs.HubView.{HubView}
 use Rattle.casper_hub.specs.Owned.{own_of}
-use Rattle.casper_core.specs.Acting.{outside_of, Gives, Does, Leaves, Holds}
+use Rattle.casper_core.specs.Acting.{outside_of, IsTurnResult, RefinesTurn, KeepsHubRight, Holds}
 use Rattle.casper_core.specs.ClientTurns.{IsTurnOf, client_turn}
 use Rattle.casper_core.specs.CoreView.{CoreView, cache_at}
 use Rattle.casper_core.specs.Loading.{OnlyLoads}
 use Rattle.casper_core.specs.Placing.{placed}
-use Rattle.casper_core.specs.Shaped.{Makes, HasShapeOf, IsMade, StepsInShape, read_with, client_turn_with, step_with}
+use Rattle.casper_core.specs.Shaped.{RefinesTurnButValues, RepresentsButWords, IsMade, StepsInShape, read_with, client_turn_with, step_with}
 use Rattle.casper_core.specs.Sound.{IsSound}
-use Rattle.casper_core.specs.Stands.{own_part, HasPartsOf, Stands}
+use Rattle.casper_core.specs.Represents.{own_part, HasPartsOf, Represents}
 use Rattle.casper_core.specs.Stepping.{Steps}
 use Rattle.casper_core.proofs.Loads.{shows_loaded}
 use Rattle.casper_core.proofs.MachineTurns.{same_gives, gives_by}
@@ -69,9 +69,6 @@ names who event.Settle is client = absurd is
 names who (event.Depart other) is client = absurd is
 names who (event.Vanish other) is client = absurd is
 names who (event.Lose other) is client = absurd is
-
-abbrev StaysStable : State → Event → Outside → Type 0
-StaysStable state one outside = stable_entries (step state one outside).state.shared.trail ≡ stable_entries state.shared.trail
 
 pub stays_stable : (who : ℕ) (one : Event) → IsTurnOf who one → (outside : Outside) (state : State) → stable_entries (step state one outside).state.shared.trail ≡ stable_entries state.shared.trail
 stays_stable who (event.Join other) is outside state = absurd is
@@ -185,17 +182,17 @@ module _ {V : Type 0} (core : CoreView V) (at who : ℕ) (same : at ≡ who) (cl
   absent_made one caches is none back state shape =
       made_same state one answer.Absent (record core { caches = caches })
       (is_absent_with who one is answer.Absent state (live_where core who false state sound shape.shared (ap is_some none)))
-      (subst (λ list. HasShapeOf state (record core { caches = list })) (sym back) shape)
+      (subst (λ list. RepresentsButWords state (record core { caches = list })) (sym back) shape)
 
   -- a turn of a live client, in which the cache stays its own
   module _ (own : cache.Own) (found : cache_at core who ≡ Some own) (tells : Bool) (after : HubView) (own_after : cache.Own) (calls : ℕ) (vault : V) (size : ℕ) (told : VaultState)
-      (leaves : Leaves who tells core.told.image core.hub own after) (holds : Holds who tells core.told.image core.hub own after own_after) where
+      (leaves : KeepsHubRight who tells core.told.image core.hub own after) (holds : Holds who tells core.told.image core.hub own after own_after) where
     pub sound_turn : size ≡ core.size → told.doubt ≡ None → IsSound (placed core at after (Some own_after) calls vault size told)
     sound_turn same_size sure =
         subst (λ number. IsSound (placed core number after (Some own_after) calls vault size told)) (sym same)
         (sound_placed core who after (Some own_after) calls vault size told sound client (placed_again core who own tells core.told.image after own_after sound found leaves holds) same_size sure)
 
-    pub turn_steps : (one : Event) (said : Answer) → IsTurnOf who one → IsTrue tells → told ≡ core.told → Does who tells core.told.image (client_turn who one) core.hub own said after own_after
+    pub turn_steps : (one : Event) (said : Answer) → IsTurnOf who one → IsTrue tells → told ≡ core.told → RefinesTurn who tells core.told.image (client_turn who one) core.hub own said after own_after
         → Steps one said core (placed core at after (Some own_after) calls vault size told)
     turn_steps one said is is_told same_told does =
         subst (λ number. Steps one said core (placed core number after (Some own_after) calls vault size told)) (sym same)
@@ -204,12 +201,12 @@ module _ {V : Type 0} (core : CoreView V) (at who : ℕ) (same : at ≡ who) (cl
         (λ state stands. is_turn who one is (outside_of said) state (live_where core who true state sound stands.parts.shared (ap is_some found)))
         does leaves holds same_told)
 
-    pub turn_made : (one : Event) (said : Answer) → IsTurnOf who one → Makes who (client_turn_with who one) core.hub own said after own_after
+    pub turn_made : (one : Event) (said : Answer) → IsTurnOf who one → RefinesTurnButValues who (client_turn_with who one) core.hub own said after own_after
         → StepsInShape one said core (placed core at after (Some own_after) calls vault size told)
     turn_made one said is makes state shape =
         let here : step_with state one said ≡ client_turn_with who one said state =
         is_turn_with who one is said state (live_where core who true state sound shape.shared (ap is_some found)) in
-        let gives : Gives who state (step_with state one said) said after (own_of own_after) =
+        let gives : IsTurnResult who state (step_with state one said) said after (own_of own_after) =
         gives_by who state (step_with state one said) (client_turn_with who one said state) said after (own_of own_after) here (makes state (shape_at core who own state client found shape)) in
         subst (λ number. IsMade state one said (placed core number after (Some own_after) calls vault size told)) (sym same)
         (record {
@@ -217,14 +214,14 @@ module _ {V : Type 0} (core : CoreView V) (at who : ℕ) (same : at ≡ who) (cl
           shape = shape_placed core who after (Some own_after) calls vault size told state (step_with state one said) said sound client shape gives;
         })
 
-    pub turn_unchanged : IsTrue tells → told ≡ core.told → OnlyLoads core.hub after → own_after ≡ own → (state : State) → Stands state core
-        → Stands state (placed core at after (Some own_after) calls vault size told)
+    pub turn_unchanged : IsTrue tells → told ≡ core.told → OnlyLoads core.hub after → own_after ≡ own → (state : State) → Represents state core
+        → Represents state (placed core at after (Some own_after) calls vault size told)
     turn_unchanged is_told same_told loads same_own state stands =
         let below : who < 33 = omega (arith, client.1) in
-        let gives : Gives who state (record { answer = answer.Absent; state = state }) answer.Absent after (own_part core.capacity who (Some own_after)) =
+        let gives : IsTurnResult who state (record { answer = answer.Absent; state = state }) answer.Absent after (own_part core.capacity who (Some own_after)) =
         same_gives who state (own_of own_after) answer.Absent after
         (stands.parts.owns who below ∙ ap (own_part core.capacity who) found ∙ ap own_of (sym same_own)) (shows_loaded state.shared core.hub after loads stands.parts.shared) in
-        subst (λ number. Stands state (placed core number after (Some own_after) calls vault size told)) (sym same)
+        subst (λ number. Represents state (placed core number after (Some own_after) calls vault size told)) (sym same)
         (record {
           parts = parts_placed core who after (Some own_after) calls vault size told state (record { answer = answer.Absent; state = state }) answer.Absent sound client
               (placed_again core who own tells core.told.image after own_after sound found leaves holds) stands.parts gives

@@ -32,15 +32,15 @@ use Rattle.casper_model.specs.Turn.{Turn, guarded, within, is_in_range, are_in_r
 use Rattle.casper_model.specs.View.{value_seen}
 use Rattle.casper_hub.specs.HubView as hub
 use Rattle.casper_hub.specs.HubView.{HubView}
-use Rattle.casper_hub.proofs.Showing.{free_shown}
+use Rattle.casper_hub.proofs.Showing.{free_shown, liveness_shown}
 use Rattle.casper_core.specs.Acting.{outside_of}
 use Rattle.casper_core.specs.CoreView.{CoreView}
 use Rattle.casper_core.specs.Decided.{decided_of, is_of_no_turn, AnswersByTheHub}
-use Rattle.casper_core.specs.Shaped.{HasShapeOf, StepsInShape, read_with, step_with}
+use Rattle.casper_core.specs.Shaped.{RepresentsButWords, StepsInShape, read_with, step_with}
 use Rattle.casper_core.specs.Sound.{IsSound}
 use Rattle.casper_core.specs.Stepping.{IsBuilt}
 use Rattle.casper_core.proofs.ShapedRuns.{some_state}
-use Rattle.casper_core.proofs.StepParts.{live_shown, number_at}
+use Rattle.casper_core.proofs.StepParts.{number_at}
 
 -- What an answer is by the hub alone.
 
@@ -136,9 +136,9 @@ join_by : (shared : Shared) (own : machine.Own) (place : Option Client)
 join_by shared own (Some client) = refl
 join_by shared own None = join_room shared _ own _ (free_room shared == 0)
 
-module _ {V : Type 0} (core : CoreView V) (sound : IsSound core) (state : State) (shape : HasShapeOf state core) where
+module _ {V : Type 0} (core : CoreView V) (sound : IsSound core) (state : State) (shape : RepresentsButWords state core) where
   live_here : (who : ℕ) → is_live state.shared who ≡ hub.is_live core.hub who
-  live_here who = live_shown state.shared core.hub who shape.shared
+  live_here who = liveness_shown state.shared core.hub shape.shared who
 
   join_decided : (who : ℕ) → of_join (join state.shared (own_at state who)).reply
       ≡ cond (hub.is_live core.hub who) answer.Busy (cond (hub.free_in core.hub == 0) (answer.TrailFull (entry_count core.hub.trail)) answer.Joined)
@@ -148,7 +148,7 @@ module _ {V : Type 0} (core : CoreView V) (sound : IsSound core) (state : State)
       ∙ ap (λ live. cond live answer.Busy (cond (free_room state.shared == 0) (answer.TrailFull (entry_count state.shared.trail)) answer.Joined))
       (ap (is_live state.shared) (number_at core who state sound shape) ∙ live_here who)
       ∙ ap₂ (λ free trail. cond (hub.is_live core.hub who) answer.Busy (cond (free == 0) (answer.TrailFull (entry_count trail)) answer.Joined))
-      (free_shown state.shared core.hub shape.shared sound.hub) shape.shared.trail
+      (free_shown state.shared core.hub shape.shared sound.hub.formed.places) shape.shared.trail
 
   by_event : (one : Event) (said : Answer) → IsBuilt one → said ≡ (step_with state one said).answer → AnswersByTheHub core.hub one said
   by_event (event.Join who) said built is = is ∙ join_decided who

@@ -1,5 +1,5 @@
 use Rattle.std.proofs.Common.{◌≡◌, ◌≢◌, ℕ, zero, suc, List, [], ◌∷◌, true, false, refl, sym, ap, ap₂, ◌∙◌, subst}
-use Rattle.std.specs.Prelude.{Option, None, Some, is_some, option_map, slice_set}
+use Rattle.std.specs.Prelude.{Option, None, Some, is_some, slice_set}
 use Rattle.std.proofs.lemmas.Option.{none-some}
 use Rattle.casper_words.specs.Crew.{IsClient}
 use Rattle.casper_space.specs.declared.answer.Answer.TheVariants as answer
@@ -8,9 +8,9 @@ use Rattle.casper_model.specs.declared.event.Event.TheVariants as event
 use Rattle.casper_model.specs.declared.reply.Served.{Served}
 use Rattle.casper_model.specs.declared.reply.Served.TheVariants as served
 use Rattle.casper_model.specs.Own as machine
-use Rattle.casper_model.specs.Client.{Client}
+use Rattle.casper_model.specs.Client.{Fallen}
 use Rattle.casper_model.specs.Stabilisation.{Stabilisation}
-use Rattle.casper_model.specs.Shared.{Shared, client_at, of_client, fallen_at}
+use Rattle.casper_model.specs.Shared.{Shared, fallen_at}
 use Rattle.casper_model.specs.Both.{Both}
 use Rattle.casper_model.specs.Opening.{handed_in_to, begun, given_up, gathering_of}
 use Rattle.casper_model.specs.Leave.{depart, departed_by}
@@ -20,24 +20,22 @@ use Rattle.casper_model.specs.Step.{step, depart_turn}
 use Rattle.casper_model.specs.Shared as shared_part
 use Rattle.casper_model.specs.Vault.{VaultState}
 use Rattle.casper_model.proofs.StepAdditions.{step_adds}
-use Rattle.casper_hub.specs.HubView.{HubView, ClientView, client_in, is_live}
+use Rattle.casper_hub.specs.HubView.{HubView, is_live}
 use Rattle.casper_hub.specs.Owned.{own_of}
-use Rattle.casper_hub.specs.Shows.{Shows, ShowsClient, fallen_of}
 use Rattle.casper_hub.specs.Sound.{IsSound as Whole}
-use Rattle.casper_hub.specs.Apart.{Apart}
+use Rattle.casper_hub.specs.GoesOn.{KeepsClient}
 use Rattle.casper_hub.specs.Turns.{IsTurn}
 use Rattle.casper_hub.specs.Words.{FramesAreRight, CacheIsRight}
-use Rattle.casper_core.specs.Acting.{outside_of, Gives}
+use Rattle.casper_core.specs.Acting.{outside_of, IsTurnResult}
 use Rattle.casper_core.specs.CoreView.{CoreView, cache_at}
 use Rattle.casper_core.specs.Placing.{placed, IsPlaced}
-use Rattle.casper_core.specs.Shaped.{HasShapeOf, IsMade, StepsInShape}
+use Rattle.casper_core.specs.Shaped.{RepresentsButWords, IsMade, StepsInShape}
 use Rattle.casper_core.specs.Sound.{IsSound}
-use Rattle.casper_core.specs.Stands.{own_part, HasPartsOf}
+use Rattle.casper_core.specs.Represents.{own_part, HasPartsOf}
 use Rattle.casper_core.specs.Stepping.{IsAnswered, Steps}
 use Rattle.casper_core.proofs.MachineTurns.{turned_gives, gives_by}
 use Rattle.casper_core.proofs.Places.{sound_placed, parts_placed, shape_placed, stable_stays}
 use Rattle.casper_core.proofs.StepParts.{answered_by, answered_same, passed_by, refused_by, live_where, shape_of, shape_at, made_same}
-use Rattle.casper_hub.proofs.Witness.{some_shared, some_shows}
 
 -- A client departs from a core.
 
@@ -47,15 +45,14 @@ set_again [] at first second = refl
 set_again (x ∷ xs) zero first second = refl
 set_again (x ∷ xs) (suc at) first second = ap (λ rest. x ∷ rest) (set_again xs at first second)
 
--- a client of a sound hub has not fallen
-up_place : (shared : Shared) (hub : HubView) (who : ℕ) → Whole hub → (place : Option Client) (shown : Option ClientView) → client_in hub who ≡ shown
-    → ShowsClient hub.trail hub.pages.rights who place shown → of_client None (λ client. client.fallen) place ≡ None
-up_place shared hub who sound None shown is shows = refl
-up_place shared hub who sound (Some client) None is shows = absurd shows
-up_place shared hub who sound (Some client) (Some shown) is shows = shows.fallen ∙ ap (option_map (fallen_of hub.trail)) (sound.up who shown is).1
+-- a client that departs has not fallen
+up_by : (shared : Shared) (own : machine.Own) (fallen : Option Fallen) → fallen_at shared own.who ≡ fallen → served.Ok ≡ (departed_by shared own fallen).reply
+    → fallen_at shared own.who ≡ None
+up_by shared own None is reply = is
+up_by shared own (Some fallen) is reply = cc
 
-pub up_shown : (shared : Shared) (hub : HubView) (who : ℕ) → Whole hub → Shows shared hub → fallen_at shared who ≡ None
-up_shown shared hub who sound shows = up_place shared hub who sound (client_at shared who) (client_in hub who) refl (shows.clients who)
+up_as_it_departs : (shared : Shared) (own : machine.Own) → served.Ok ≡ (depart shared own).reply → fallen_at shared own.who ≡ None
+up_as_it_departs shared own reply = up_by shared own (fallen_at shared own.who) refl reply
 
 -- the own part of a client that has departed is blank
 opened_who : (both : Both) (gathering : Option Stabilisation)
@@ -67,9 +64,6 @@ departed_own : (shared : Shared) (own : machine.Own) → fallen_at shared own.wh
 departed_own shared own up =
     let both = given_up (begun shared own) in
     ap (λ fallen. (departed_by shared own fallen).own) up ∙ opened_who both (gathering_of both.shared both.own.who)
-
-departed_reply : (shared : Shared) (own : machine.Own) → fallen_at shared own.who ≡ None → (depart shared own).reply ≡ served.Ok
-departed_reply shared own up = ap (λ fallen. (departed_by shared own fallen).reply) up
 
 module _ {V : Type 0} (core : CoreView V) (at who : ℕ) (same : at ≡ who) (client : IsClient who) (sound : IsSound core) where
   -- an absent client
@@ -83,16 +77,10 @@ module _ {V : Type 0} (core : CoreView V) (at who : ℕ) (same : at ≡ who) (cl
   absent_depart_made caches none back state shape =
       made_same state (event.Depart who) answer.Absent (record core { caches = caches })
       (refused_by (shared_part.is_live state.shared who) answer.Absent state (depart_turn who) (live_where core who false state sound shape.shared (ap is_some none)))
-      (subst (λ list. HasShapeOf state (record core { caches = list })) (sym back) shape)
+      (subst (λ list. RepresentsButWords state (record core { caches = list })) (sym back) shape)
 
-  module _ (own : cache.Own) (found : cache_at core who ≡ Some own) (after : HubView) (own_after : cache.Own) (reply : Served) (turn : IsTurn depart reply core.hub own after own_after) where
-    -- it has not fallen
-    pub departed : reply ≡ served.Ok
-    departed =
-        turn.replies (some_shared core.hub) (some_shows core.hub sound.hub)
-        ∙ departed_reply (some_shared core.hub) (own_of own) (up_shown (some_shared core.hub) core.hub own.client sound.hub (some_shows core.hub sound.hub))
-
-    module _ (left : is_live after who ≡ false) (client_after : own_after.client ≡ who) (others : (other : ℕ) → other ≢ who → Apart other core.hub after) (whole : Whole after) where
+  module _ (own : cache.Own) (found : cache_at core who ≡ Some own) (after : HubView) (own_after : cache.Own) (reply : Served) (departed : reply ≡ served.Ok) (turn : IsTurn depart reply core.hub own after own_after) where
+    module _ (left : is_live after who ≡ false) (client_after : own_after.client ≡ who) (others : (other : ℕ) → other ≢ who → KeepsClient other core.hub after) (whole : Whole after) where
       left_place : IsPlaced who core after None
       left_place = record {
         sound = whole;
@@ -109,20 +97,20 @@ module _ {V : Type 0} (core : CoreView V) (at who : ℕ) (same : at ≡ who) (cl
             subst (λ number. IsSound (placed core number after None calls vault size told)) (sym same)
             (sound_placed core who after None calls vault size told sound client left_place same_size sure)
 
-        depart_gives : (state : State) → HasShapeOf state core
-            → Gives who state (step state (event.Depart who) (outside_of (of_depart reply))) (of_depart reply) after (own_part core.capacity who None)
+        depart_gives : (state : State) → RepresentsButWords state core
+            → IsTurnResult who state (step state (event.Depart who) (outside_of (of_depart reply))) (of_depart reply) after (own_part core.capacity who None)
         depart_gives state shape =
             let said = of_depart reply in
             let outside = outside_of said in
             let kept = sound.kept who own found in
             let blank : own_of own_after ≡ machine.blank who core.capacity =
             turn.owns state.shared shape.shared
-            ∙ departed_own state.shared (own_of own) (up_shown state.shared core.hub own.client sound.hub shape.shared)
+            ∙ departed_own state.shared (own_of own) (up_as_it_departs state.shared (own_of own) (sym departed ∙ turn.replies state.shared shape.shared))
             ∙ ap₂ machine.blank kept.client kept.capacity in
             let here : step state (event.Depart who) outside ≡ depart_turn who state =
             passed_by (shared_part.is_live state.shared who) answer.Absent state (depart_turn who) (live_where core who true state sound shape.shared (ap is_some found)) in
             gives_by who state (step state (event.Depart who) outside) (depart_turn who state) said after (own_part core.capacity who None) here
-            (subst (λ one. Gives who state (depart_turn who state) said after one) blank
+            (subst (λ one. IsTurnResult who state (depart_turn who state) said after one) blank
             (turned_gives depart of_depart reply who state core.hub own after own_after (shape_at core who own state client found shape) turn client_after))
 
         pub depart_made : StepsInShape (event.Depart who) (of_depart reply) core (placed core at after None calls vault size told)

@@ -1,26 +1,24 @@
-use Rattle.std.proofs.Common.{◌≡◌, ◌<◌, ℕ, ◌++◌, cond, length, refl, sym, ap, ap₂, ◌∙◌}
-use Rattle.std.specs.Prelude.{Option, None, Some, option_map, option_and_then}
+use Rattle.std.proofs.Common.{◌≡◌, ◌<◌, ℕ, ◌++◌, cond, length, sym, ap, ap₂, ◌∙◌}
+use Rattle.std.specs.Prelude.{None, Some}
 use Rattle.casper_words.specs.declared.call.Op.TheVariants as op
 use Rattle.casper_words.specs.declared.page.Right.TheVariants as may
 use Rattle.casper_space.specs.declared.answer.Answer.TheVariants as answer
 use Rattle.casper_trail.specs.Value.{value_of}
 use Rattle.casper_trail.specs.Calls.{entries_by}
-use Rattle.casper_trail.specs.Parts.{live_entries}
 use Rattle.casper_cache.specs.Holding.{word_of}
 use Rattle.casper_cache.specs.Own as cache
 use Rattle.casper_model.specs.Own as machine
-use Rattle.casper_model.specs.Client.{Client}
-use Rattle.casper_model.specs.Shared.{Shared, client_at, of_client}
 use Rattle.casper_model.specs.Hits.{can_hit, with_call, hit_read, hit_write}
 use Rattle.casper_model.specs.State.{State, own_at, with_own}
-use Rattle.casper_model.specs.View.{seen_by, view, value_seen}
+use Rattle.casper_model.specs.View.{view, value_seen}
 use Rattle.casper_model.specs.CallStep.{hit_turn, read_hit, write_hit}
-use Rattle.casper_hub.specs.HubView.{HubView, ClientView, FallenView, client_in, items_behind}
+use Rattle.casper_hub.specs.HubView.{HubView}
 use Rattle.casper_hub.specs.Owned.{own_of}
-use Rattle.casper_hub.specs.Shows.{Shows, ShowsClient, fallen_of}
+use Rattle.casper_hub.specs.Shows.{Shows}
+use Rattle.casper_hub.proofs.Showing.{seen_shown}
 use Rattle.casper_hub.specs.Words.{CacheIsRight, seen_value}
 use Rattle.casper_hub.proofs.Hitting.{hits_read_what_is_seen}
-use Rattle.casper_core.proofs.Hits.{can_read, cannot_read, can_write, cannot_write, own_behind_read, own_behind_write}
+use Rattle.casper_hub.proofs.HeldHits.{can_read, cannot_read, can_write, cannot_write, own_behind_read, own_behind_write}
 
 -- A hit of a client's cache is a hit of the machine's state.
 
@@ -33,26 +31,12 @@ pub record Sees (who : ℕ) (state : State) (hub : HubView) (own : cache.Own) : 
   pub client : own.client ≡ who
   pub sound : cache.IsSound own
 
--- what a client sees of the trail
-seen_fallen : (shared : Shared) (hub : HubView) → shared.trail ≡ hub.trail → (fallen : Option FallenView)
-    → seen_by shared (option_map (fallen_of hub.trail) fallen) ≡ live_entries (items_behind hub.trail fallen)
-seen_fallen shared hub same None = ap live_entries same
-seen_fallen shared hub same (Some fallen) = refl
-
-seen_is : (shared : Shared) (hub : HubView) → Shows shared hub → (who : ℕ) (place : Option Client) (shown : Option ClientView)
-    → ShowsClient hub.trail hub.pages.rights who place shown
-    → seen_by shared (of_client None (λ client. client.fallen) place) ≡ live_entries (items_behind hub.trail (option_and_then (λ client. client.fallen) shown))
-seen_is shared hub shows who None None is = ap live_entries shows.trail
-seen_is shared hub shows who None (Some shown) is = absurd is
-seen_is shared hub shows who (Some client) None is = absurd is
-seen_is shared hub shows who (Some client) (Some shown) is = ap (seen_by shared) is.fallen ∙ seen_fallen shared hub shows.trail shown.fallen
-
 pub value_is : (who : ℕ) (state : State) (hub : HubView) (own : cache.Own) (page word : ℕ) → Sees who state hub own
     → value_seen state who page word ≡ seen_value state.base hub own page word
 value_is who state hub own page word sees =
     ap (λ (one : machine.Own). value_of state.base (view state.shared one) page word) sees.part
     ∙ ap (λ seen. value_of state.base (seen ++ entries_by own.client own.pending) page word)
-    (seen_is state.shared hub sees.shared own.client (client_at state.shared own.client) (client_in hub own.client) (sees.shared.clients own.client))
+    (seen_shown state.shared hub sees.shared own.client)
 
 pub read_hits : (who : ℕ) (state : State) (hub : HubView) (own : cache.Own) (page word value : ℕ) (after : cache.Own) → Sees who state hub own → cache.CanRead own page → word < 512
     → value ≡ word_of page word own.held → after ≡ cache.after_read own (record { op = op.Read; page = page; word = word; value = value })

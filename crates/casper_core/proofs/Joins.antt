@@ -1,4 +1,4 @@
-use Rattle.std.proofs.Common.{◌≡◌, ◌≢◌, ◌<◌, ℕ, List, [], Bool, true, false, ◌==◌, cond, refl, sym, ap, ◌∙◌, subst, arith}
+use Rattle.std.proofs.Common.{◌≡◌, ◌≢◌, ◌<◌, ◌≤◌, ℕ, List, [], Bool, true, false, ◌==◌, cond, refl, sym, ap, ◌∙◌, subst, arith}
 use Rattle.std.specs.Prelude.{Option, None, Some, unwrap_or, Ok, Err}
 use Rattle.std.proofs.lemmas.Option.{none-some}
 use Rattle.std.proofs.lemmas.List.{set-get_or}
@@ -20,19 +20,19 @@ use Rattle.casper_model.specs.Answers.{of_join}
 use Rattle.casper_model.specs.State.{State, own_at, after_turn}
 use Rattle.casper_model.specs.Step.{step}
 use Rattle.casper_model.proofs.StepAdditions.{step_adds}
-use Rattle.casper_hub.specs.HubView.{HubView, is_live, cap_in, right_in}
-use Rattle.casper_hub.specs.Owned.{Owns, own_of}
+use Rattle.casper_hub.specs.HubView.{HubView, is_live, cap_in}
+use Rattle.casper_hub.specs.Owned.{Owns, own_of, new_cache}
 use Rattle.casper_hub.specs.Sound as hub
-use Rattle.casper_hub.specs.Apart.{Apart}
+use Rattle.casper_hub.specs.GoesOn.{KeepsClient}
 use Rattle.casper_hub.specs.Turns.{IsJoin, Joins}
 use Rattle.casper_hub.specs.Words.{FramesAreRight, CacheIsRight}
-use Rattle.casper_hub.proofs.Relying.{apart_itself}
-use Rattle.casper_core.specs.Acting.{outside_of, Gives}
+use Rattle.casper_hub.proofs.Relying.{kept_itself}
+use Rattle.casper_core.specs.Acting.{outside_of, IsTurnResult}
 use Rattle.casper_core.specs.CoreView.{CoreView, cache_at}
 use Rattle.casper_core.specs.Placing.{placed, IsPlaced}
-use Rattle.casper_core.specs.Shaped.{HasShapeOf, IsMade, StepsInShape}
+use Rattle.casper_core.specs.Shaped.{RepresentsButWords, IsMade, StepsInShape}
 use Rattle.casper_core.specs.Sound.{IsSound}
-use Rattle.casper_core.specs.Stands.{own_part, HasPartsOf}
+use Rattle.casper_core.specs.Represents.{own_part, HasPartsOf}
 use Rattle.casper_core.specs.Stepping.{IsAnswered, Steps}
 use Rattle.casper_core.proofs.MachineTurns.{moved_gives}
 use Rattle.casper_core.proofs.Places.{sound_placed, parts_placed, shape_placed}
@@ -67,7 +67,7 @@ module _ {V : Type 0} (core : CoreView V) (who : ℕ) (client : IsClient who) (s
   pub placed_same : IsPlaced who core core.hub (cache_at core who)
   placed_same = record {
     sound = sound.hub;
-    others = λ other away. apart_itself other core.hub;
+    others = λ other away. kept_itself other core.hub;
     live = sound.live who;
     client = λ own is. (sound.kept who own is).client;
     same_capacity = λ own is. (sound.kept who own is).capacity;
@@ -75,8 +75,8 @@ module _ {V : Type 0} (core : CoreView V) (who : ℕ) (client : IsClient who) (s
   }
 
   -- the join is refused
-  refused_gives : (why : JoinRefusal) (state : State) → IsJoin who (Err why) core.hub core.hub → HasShapeOf state core
-      → Gives who state (step state (event.Join who) (outside_of (of_join (Some why)))) (of_join (Some why)) core.hub (own_part core.capacity who (cache_at core who))
+  refused_gives : (why : JoinRefusal) (state : State) → IsJoin who (Err why) core.hub core.hub → RepresentsButWords state core
+      → IsTurnResult who state (step state (event.Join who) (outside_of (of_join (Some why)))) (of_join (Some why)) core.hub (own_part core.capacity who (cache_at core who))
   refused_gives why state is shape =
       let own = own_at state who in
       let turn = join state.shared own in
@@ -86,8 +86,8 @@ module _ {V : Type 0} (core : CoreView V) (who : ℕ) (client : IsClient who) (s
       let given = moved_gives who state turn.shared turn.own (of_join turn.reply) core.hub (ap (λ (one : machine.Own). one.who) same ∙ number)
       (omega (arith, client.1, shape.places)) (is.shows state.shared own number shape.shared) in
       let there : turn.own ≡ own_part core.capacity who (cache_at core who) = same ∙ shape.owns who (omega (arith, client.1)) in
-      subst (λ one. Gives who state (record { answer = of_join turn.reply; state = after_turn state turn }) (of_join (Some why)) core.hub one) there
-      (subst (λ one. Gives who state (record { answer = of_join turn.reply; state = after_turn state turn }) one core.hub turn.own) (ap of_join (sym reply)) given)
+      subst (λ one. IsTurnResult who state (record { answer = of_join turn.reply; state = after_turn state turn }) (of_join (Some why)) core.hub one) there
+      (subst (λ one. IsTurnResult who state (record { answer = of_join turn.reply; state = after_turn state turn }) one core.hub turn.own) (ap of_join (sym reply)) given)
 
   pub join_refused : (why : JoinRefusal) (after : HubView) → after ≡ core.hub → IsJoin who (Err why) core.hub after → Steps (event.Join who) (of_join (Some why)) core (record core { hub = after })
   join_refused why after same is state stands =
@@ -108,30 +108,17 @@ module _ {V : Type 0} (core : CoreView V) (who : ℕ) (client : IsClient who) (s
       let gives = refused_gives why state (subst (λ one. IsJoin who (Err why) core.hub one) same is) shape in
       record {
         answers = gives.answers;
-        shape = subst (λ one. HasShapeOf (step state (event.Join who) (outside_of said)).state (record core { hub = one })) (sym same)
-            (subst (λ caches. HasShapeOf (step state (event.Join who) (outside_of said)).state (record core { caches = caches })) (set-get_or core.caches who None)
+        shape = subst (λ one. RepresentsButWords (step state (event.Join who) (outside_of said)).state (record core { hub = one })) (sym same)
+            (subst (λ caches. RepresentsButWords (step state (event.Join who) (outside_of said)).state (record core { caches = caches })) (set-get_or core.caches who None)
             (shape_placed core who core.hub (cache_at core who) core.calls core.vault core.size core.told state (step state (event.Join who) (outside_of said)) said sound client shape gives));
       }
 
   -- the client has joined, with a new cache
   module _ (after : HubView) (own : cache.Own) (own_is : own ≡ record { client = who; capacity = core.capacity; held = []; pending = []; cap = cap_in after who })
-      (own_sound : cache.IsSound own) (done : Unit {0}) (joins : IsJoin who (Ok done) core.hub after) (live : is_live after who ≡ true) (rights : (page : ℕ) → right_in after who page ≡ None)
-      (others : (other : ℕ) → other ≢ who → Apart other core.hub after) (hub_sound : hub.IsSound after) where
-    new_own : cache.Own
-    new_own = record { client = who; capacity = core.capacity; held = []; pending = []; cap = cap_in after who }
-
+      (own_sound : cache.IsSound own) (done : Unit {0}) (joins : IsJoin who (Ok done) core.hub after) (live : is_live after who ≡ true) (owned : (capacity : ℕ) → 8 ≤ capacity → capacity ≤ 1024 → Owns after (new_cache who capacity (cap_in after who)))
+      (others : (other : ℕ) → other ≢ who → KeepsClient other core.hub after) (hub_sound : hub.IsSound after) where
     owns_new : Owns after own
-    owns_new =
-        subst (Owns after) (sym own_is)
-        (record {
-          sound = subst cache.IsSound own_is own_sound;
-          client = client;
-          live = live;
-          cap = refl;
-          few = omega arith;
-          rights = λ up page. rights page;
-          calls = λ up call inside. absurd (omega (arith, inside.1));
-        })
+    owns_new = subst (Owns after) (sym own_is) (owned core.capacity sound.least sound.most)
 
     is_it : (one : cache.Own) → ◌≡◌ {A = Option cache.Own} (Some own) (Some one) → own ≡ one
     is_it one is = ap (λ o. unwrap_or o own) is
@@ -151,7 +138,7 @@ module _ {V : Type 0} (core : CoreView V) (who : ℕ) (client : IsClient who) (s
         subst (λ number. IsSound (placed core number after (Some own) core.calls core.vault core.size core.told)) (sym same)
         (sound_placed core who after (Some own) core.calls core.vault core.size core.told sound client placed_new refl sound.sure)
 
-    joined_gives : (state : State) → HasShapeOf state core → Gives who state (step state (event.Join who) (outside_of answer.Joined)) answer.Joined after (own_of own)
+    joined_gives : (state : State) → RepresentsButWords state core → IsTurnResult who state (step state (event.Join who) (outside_of answer.Joined)) answer.Joined after (own_of own)
     joined_gives state shape =
         let mine = own_at state who in
         let turn = join state.shared mine in
@@ -165,8 +152,8 @@ module _ {V : Type 0} (core : CoreView V) (who : ℕ) (client : IsClient who) (s
         ∙ ap own_of (sym own_is) in
         let given = moved_gives who state turn.shared turn.own (of_join turn.reply) after (ap (λ (one : machine.Own). one.who) same ∙ ap (λ (o : cache.Own). o.client) own_is)
         (omega (arith, client.1, shape.places)) (joins.shows state.shared mine number shape.shared) in
-        subst (λ one. Gives who state (record { answer = of_join turn.reply; state = after_turn state turn }) answer.Joined after one) same
-        (subst (λ one. Gives who state (record { answer = of_join turn.reply; state = after_turn state turn }) one after turn.own) (ap of_join (sym reply)) given)
+        subst (λ one. IsTurnResult who state (record { answer = of_join turn.reply; state = after_turn state turn }) answer.Joined after one) same
+        (subst (λ one. IsTurnResult who state (record { answer = of_join turn.reply; state = after_turn state turn }) one after turn.own) (ap of_join (sym reply)) given)
 
     pub join_made : (at : ℕ) → at ≡ who → StepsInShape (event.Join who) answer.Joined core (placed core at after (Some own) core.calls core.vault core.size core.told)
     join_made at same state shape =

@@ -4,7 +4,6 @@ pub mod CallTurns
 pub mod CoreTurns
 pub mod DecidedTurns
 pub mod Departs
-pub mod Hits
 pub mod HitTurns
 pub mod Joins
 pub mod Loads

@@ -6,20 +6,21 @@ use Rattle.casper_cache.specs.Own as cache
 use Rattle.casper_model.proofs.Entries.{contains_cases}
 use Rattle.casper_trail.proofs.LinkLists.{contains_there}
 use Rattle.casper_model.specs.Shared.{Shared}
-use Rattle.casper_hub.specs.HubView.{HubView, frame_in, page_count}
-use Rattle.casper_hub.specs.Owned.{Owns}
+use Rattle.casper_hub.specs.HubView.{HubView, is_live, frame_in, page_count}
+use Rattle.casper_hub.specs.Owned.{own_of, Owns}
 use Rattle.casper_hub.specs.Shows.{Shows}
 use Rattle.casper_hub.specs.Words.{CacheIsRight}
-use Rattle.casper_hub.specs.Apart.{Apart}
+use Rattle.casper_hub.specs.GoesOn.{KeepsClient}
 use Rattle.casper_hub.specs.Turns.{IsTurn}
-use Rattle.casper_hub.proofs.Supplied.{with_frames, apart_but_frames}
+use Rattle.casper_hub.proofs.StandsFor.{good_with, good_with_each}
+use Rattle.casper_hub.proofs.Supplied.{with_frames, shows_beside_frames, kept_beside_frames}
 use Rattle.casper_model.specs.Own as machine
 use Rattle.casper_model.specs.Both.{Turned}
 use Rattle.casper_core.specs.Loading.{OnlyLoads, AreStored}
 
 -- What frames that were loaded leave: all but the frames.
 
--- what holds with any frames holds behind loads
+-- what holds with any frames holds after loads
 behind_loads : (P : HubView → Type 0) (hub after : HubView) → OnlyLoads hub after → ((frames : List (Option (List ℕ))) → P (with_frames hub frames)) → P after
 behind_loads P hub after loads any = subst P (sym loads.same) (any after.pages.frames)
 
@@ -33,32 +34,24 @@ loads_again first second third one two = record {
 }
 
 pub shows_loaded : (shared : Shared) (hub after : HubView) → OnlyLoads hub after → Shows shared hub → Shows shared after
-shows_loaded shared hub after loads shows =
-    behind_loads (Shows shared) hub after loads
-    (λ frames. record {
-      trail = shows.trail;
-      limit = shows.limit;
-      pages = shows.pages;
-      places = shows.places;
-      stabilisations = shows.stabilisations;
-      clients = shows.clients;
-    })
+shows_loaded shared hub after loads shows = shows_beside_frames shared hub after shows loads.same
+
+-- and what it stood for, it stood for before them
+pub shown_before_loads : (shared : Shared) (hub after : HubView) → OnlyLoads hub after → Shows shared after → Shows shared hub
+shown_before_loads shared hub after loads =
+    behind_loads (λ one. Shows shared one → Shows shared hub) hub after loads
+    (λ frames shows. shows_beside_frames shared (with_frames hub frames) hub shows refl)
 
 pub owns_loaded : (hub after : HubView) (own : cache.Own) → OnlyLoads hub after → Owns hub own → Owns after own
-owns_loaded hub after own loads owns =
-    behind_loads (λ one. Owns one own) hub after loads
-    (λ frames. record {
-      sound = owns.sound;
-      client = owns.client;
-      live = owns.live;
-      cap = owns.cap;
-      few = owns.few;
-      rights = owns.rights;
-      calls = owns.calls;
-    })
+owns_loaded hub after own loads owns = record {
+  sound = owns.sound;
+  few = owns.few;
+  live = behind_loads (λ one. is_live one own.client ≡ true) hub after loads (λ frames. owns.live);
+  good = good_with_each after (own_of own) (λ shared shows. good_with hub (own_of own) owns.good shared (shown_before_loads shared hub after loads shows));
+}
 
-pub apart_loaded : (who : ℕ) (hub after : HubView) → OnlyLoads hub after → Apart who hub after
-apart_loaded who hub after loads = apart_but_frames who hub after loads.same
+pub kept_loaded : (who : ℕ) (hub after : HubView) → OnlyLoads hub after → KeepsClient who hub after
+kept_loaded who hub after loads = kept_beside_frames who hub after loads.same
 
 pub right_loaded : (base : List (List ℕ)) (hub after : HubView) (own : cache.Own) → OnlyLoads hub after → CacheIsRight base hub own → CacheIsRight base after own
 right_loaded base hub after own loads right = behind_loads (λ one. CacheIsRight base one own) hub after loads (λ frames. right)
@@ -69,7 +62,7 @@ stored_loaded base image hub after loads stored = behind_loads (λ one. AreStore
 pub pages_loaded : (hub after : HubView) → OnlyLoads hub after → page_count after ≡ page_count hub
 pages_loaded hub after loads = behind_loads (λ one. page_count one ≡ page_count hub) hub after loads (λ frames. refl)
 
--- a turn made behind loads is made of the hub before them
+-- a turn made after loads is made of the hub before them
 pub turn_loaded : {R : Type 0} (turn : Shared → machine.Own → Turned R) (reply : R) (hub middle : HubView) (own : cache.Own) (after : HubView) (own_after : cache.Own)
     → OnlyLoads hub middle → IsTurn turn reply middle own after own_after → IsTurn turn reply hub own after own_after
 turn_loaded turn reply hub middle own after own_after loads is = record {
@@ -151,7 +144,7 @@ unframed_before hub after want loads unframed = by_frame (is_some (frame_in hub.
     by_frame true is = absurd (true≢false (sym unframed ∙ ap not (loads.stays want.page is)))
     by_frame false is = refl
 
--- behind a load of a page of a want fewer are unframed
+-- after a load of a page of a want fewer are unframed
 pub fewer_unframed : (hub after : HubView) (wants : List Want) (want : Want) → OnlyLoads hub after → Contains wants want → is_unframed hub want ≡ true
     → IsSome (frame_in after.pages want.page) → unframed_of after wants + 1 ≤ unframed_of hub wants
 fewer_unframed hub after wants want loads among unframed framed =

@@ -18,7 +18,7 @@ use Rattle.casper_hub.specs.HubView.{HubView}
 use Rattle.casper_hub.specs.Owned.{own_of}
 use Rattle.casper_hub.specs.Shows.{Shows}
 use Rattle.casper_hub.specs.Turns.{IsTurn}
-use Rattle.casper_core.specs.Acting.{Gives}
+use Rattle.casper_core.specs.Acting.{IsTurnResult}
 use Rattle.casper_core.specs.Loading.{LoadFails, Acquired}
 use Rattle.casper_core.specs.Shaped.{IsShape}
 use Rattle.casper_core.proofs.Loads.{shows_loaded}
@@ -27,7 +27,7 @@ use Rattle.casper_core.proofs.Loads.{shows_loaded}
 
 -- a state whose shared part and one own part are new
 pub moved_gives : (who : ℕ) (state : State) (shared : Shared) (own : machine.Own) (answer : Answer) (hub : HubView) → own.who ≡ who → who < length state.owns → Shows shared hub
-    → Gives who state (record { answer = answer; state = with_own (with_shared state shared) own }) answer hub own
+    → IsTurnResult who state (record { answer = answer; state = with_own (with_shared state shared) own }) answer hub own
 moved_gives who state shared own answer hub is below shows = record {
   answers = refl;
   shared = shows;
@@ -41,12 +41,12 @@ moved_gives who state shared own answer hub is below shows = record {
 
 -- a state in which the one own part is new
 pub called_gives : (who : ℕ) (state : State) (own : machine.Own) (answer : Answer) (hub : HubView) → own.who ≡ who → who < length state.owns → Shows state.shared hub
-    → Gives who state (record { answer = answer; state = with_own state own }) answer hub own
+    → IsTurnResult who state (record { answer = answer; state = with_own state own }) answer hub own
 called_gives who state own answer hub is below shows = moved_gives who state state.shared own answer hub is below shows
 
 -- a turn that changes nothing of the state
 pub same_gives : (who : ℕ) (state : State) (own : machine.Own) (answer : Answer) (hub : HubView) → own_at state who ≡ own → Shows state.shared hub
-    → Gives who state (record { answer = answer; state = state }) answer hub own
+    → IsTurnResult who state (record { answer = answer; state = state }) answer hub own
 same_gives who state own answer hub part shows = record {
   answers = refl;
   shared = shows;
@@ -59,13 +59,13 @@ same_gives who state own answer hub part shows = record {
 }
 
 -- a turn that is another
-pub gives_by : (who : ℕ) (state : State) (turn other : Turn) (answer : Answer) (hub : HubView) (own : machine.Own) → turn ≡ other → Gives who state other answer hub own
-    → Gives who state turn answer hub own
-gives_by who state turn other answer hub own same gives = subst (λ one. Gives who state one answer hub own) (sym same) gives
+pub gives_by : (who : ℕ) (state : State) (turn other : Turn) (answer : Answer) (hub : HubView) (own : machine.Own) → turn ≡ other → IsTurnResult who state other answer hub own
+    → IsTurnResult who state turn answer hub own
+gives_by who state turn other answer hub own same gives = subst (λ one. IsTurnResult who state one answer hub own) (sym same) gives
 
--- a turn behind another
+-- a turn after another
 pub gives_again : (who : ℕ) (state : State) (first second : Turn) (answer behind : Answer) (hub after : HubView) (own own_after : machine.Own)
-    → Gives who state first answer hub own → Gives who first.state second behind after own_after → Gives who state second behind after own_after
+    → IsTurnResult who state first answer hub own → IsTurnResult who first.state second behind after own_after → IsTurnResult who state second behind after own_after
 gives_again who state first second answer behind hub after own own_after one two = record {
   answers = two.answers;
   shared = two.shared;
@@ -80,22 +80,22 @@ gives_again who state first second answer behind hub after own own_after one two
 -- a turn of the machine that a hub made
 pub turned_gives : {R : Type 0} (turn : Shared → machine.Own → Turned R) (told : R → Answer) (reply : R) (who : ℕ) (state : State) (hub : HubView) (own : cache.Own)
     (after : HubView) (own_after : cache.Own) → IsShape who state hub own → IsTurn turn reply hub own after own_after → own_after.client ≡ who
-    → Gives who state (record { answer = told (turn state.shared (own_at state who)).reply; state = after_turn state (turn state.shared (own_at state who)) }) (told reply) after (own_of own_after)
+    → IsTurnResult who state (record { answer = told (turn state.shared (own_at state who)).reply; state = after_turn state (turn state.shared (own_at state who)) }) (told reply) after (own_of own_after)
 turned_gives turn told reply who state hub own after own_after part is client =
     let turned = turn state.shared (own_of own) in
     let same : own_of own_after ≡ turned.own = is.owns state.shared part.shared in
-    let given : Gives who state (record { answer = told turned.reply; state = after_turn state turned }) (told turned.reply) after turned.own =
+    let given : IsTurnResult who state (record { answer = told turned.reply; state = after_turn state turned }) (told turned.reply) after turned.own =
     moved_gives who state turned.shared turned.own (told turned.reply) after (ap (λ (one : machine.Own). one.who) (sym same) ∙ client) part.place (is.shows state.shared part.shared) in
-    let as_own : Gives who state (record { answer = told turned.reply; state = after_turn state turned }) (told reply) after (own_of own_after) =
-    subst (λ one. Gives who state (record { answer = told turned.reply; state = after_turn state turned }) (told reply) after one) (sym same)
-    (subst (λ one. Gives who state (record { answer = told turned.reply; state = after_turn state turned }) (told one) after turned.own) (sym (is.replies state.shared part.shared)) given) in
-    subst (λ one. Gives who state (record { answer = told (turn state.shared one).reply; state = after_turn state (turn state.shared one) }) (told reply) after (own_of own_after))
+    let as_own : IsTurnResult who state (record { answer = told turned.reply; state = after_turn state turned }) (told reply) after (own_of own_after) =
+    subst (λ one. IsTurnResult who state (record { answer = told turned.reply; state = after_turn state turned }) (told reply) after one) (sym same)
+    (subst (λ one. IsTurnResult who state (record { answer = told turned.reply; state = after_turn state turned }) (told one) after turned.own) (sym (is.replies state.shared part.shared)) given) in
+    subst (λ one. IsTurnResult who state (record { answer = told (turn state.shared one).reply; state = after_turn state (turn state.shared one) }) (told reply) after (own_of own_after))
     (sym part.part) as_own
 
 -- an acquire that came to a reply
 pub acquired_gives : (who : ℕ) (state : State) (hub : HubView) (own : cache.Own) (wants : List Want) (calls : ℕ) (reply : Reply) (after : HubView) (own_after : cache.Own)
     → IsShape who state hub own → Acquired hub own wants calls (Some reply) after own_after → own_after.client ≡ who
-    → Gives who state (acquire_step state who wants calls NothingFailed) (of_reply reply) after (own_of own_after)
+    → IsTurnResult who state (acquire_step state who wants calls NothingFailed) (of_reply reply) after (own_of own_after)
 acquired_gives who state hub own wants calls reply after own_after part is client =
     turned_gives (λ shared own. acquire shared own wants calls) of_reply reply who state hub own after own_after part is.0 client
 
@@ -106,7 +106,7 @@ failed_by state turn failed is = ap (λ b. unless_load_failed state b turn) is
 pub failed_gives : (who : ℕ) (state : State) (hub : HubView) (own : cache.Own) (wants : List Want) (calls : ℕ) (after : HubView) (own_after : cache.Own)
     → IsShape who state hub own → LoadFails hub own wants calls after own_after
     → (acquire_step state who wants calls LoadFailed ≡ record { answer = answer.Disk; state = state })
-    × Gives who state (acquire_step state who wants calls LoadFailed) answer.Disk after (own_of own_after)
+    × IsTurnResult who state (acquire_step state who wants calls LoadFailed) answer.Disk after (own_of own_after)
 failed_gives who state hub own wants calls after own_after part is =
     let turned = acquire state.shared (own_at state who) wants calls in
     let granted : is_granted (of_reply turned.reply) ≡ true =

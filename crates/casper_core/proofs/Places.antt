@@ -20,17 +20,17 @@ use Rattle.casper_model.specs.Vault.{VaultState}
 use Rattle.casper_space.specs.declared.answer.Answer.{Answer}
 use Rattle.casper_hub.specs.HubView.{HubView, is_live, page_count}
 use Rattle.casper_hub.specs.Words.{FramesAreRight, CacheIsRight}
-use Rattle.casper_hub.proofs.Relying.{owns_while_apart, right_while_apart}
-use Rattle.casper_hub.specs.Apart.{Apart}
-use Rattle.casper_core.specs.Acting.{Gives}
+use Rattle.casper_hub.proofs.Relying.{live_while_kept, pages_while_kept, owns_while_kept, right_while_kept}
+use Rattle.casper_hub.specs.GoesOn.{KeepsClient}
+use Rattle.casper_core.specs.Acting.{IsTurnResult}
 use Rattle.casper_core.specs.CoreView.{CoreView, cache_at}
 use Rattle.casper_core.specs.Loading.{AreStored}
 use Rattle.casper_core.specs.Placing.{placed, IsPlaced, IsRight}
-use Rattle.casper_core.specs.Shaped.{HasShapeOf}
+use Rattle.casper_core.specs.Shaped.{RepresentsButWords}
 use Rattle.casper_core.specs.Sound.{Keeps, IsSound}
-use Rattle.casper_core.specs.Stands.{own_part, HasPartsOf}
+use Rattle.casper_core.specs.Represents.{own_part, HasPartsOf}
 
--- A core behind a turn of a client is sound, and its parts are those of the state behind it.
+-- A core after a turn of a client is sound, and its parts are those of the state after it.
 
 module _ {V : Type 0} (core : CoreView V) (who : ℕ) (hub : HubView) (place : Option cache.Own) (calls : ℕ) (vault : V) (size : ℕ) (told : VaultState) where
   pub at_place : IsSound core → IsClient who → cache_at (placed core who hub place calls vault size told) who ≡ place
@@ -39,8 +39,8 @@ module _ {V : Type 0} (core : CoreView V) (who : ℕ) (hub : HubView) (place : O
   pub elsewhere : (other : ℕ) → other ≢ who → cache_at (placed core who hub place calls vault size told) other ≡ cache_at core other
   elsewhere other away = get_or-set_other core.caches who other place None away
 
-  pages_stay : IsClient who → IsPlaced who core hub place → page_count hub ≡ page_count core.hub
-  pages_stay client is = let none : 0 ≢ who = omega (arith, client.0) in (is.others 0 none).pages
+  pages_stay : IsSound core → IsClient who → IsPlaced who core hub place → page_count hub ≡ page_count core.hub
+  pages_stay sound client is = let none : 0 ≢ who = omega (arith, client.0) in pages_while_kept 0 core.hub hub sound.hub (is.others 0 none)
 
   live_at : IsSound core → IsClient who → IsPlaced who core hub place → (other : ℕ) → (other ≡ who) ⊎ (other ≢ who)
       → is_some (cache_at (placed core who hub place calls vault size told) other) ≡ is_live hub other
@@ -49,7 +49,7 @@ module _ {V : Type 0} (core : CoreView V) (who : ℕ) (hub : HubView) (place : O
       (λ (same : other ≡ who).
       subst (λ number. is_some (cache_at (placed core who hub place calls vault size told) number) ≡ is_live hub number) (sym same)
       (ap is_some (at_place sound client) ∙ is.live))
-      (λ (away : other ≢ who). ap is_some (elsewhere other away) ∙ sound.live other ∙ sym (is.others other away).live)
+      (λ (away : other ≢ who). ap is_some (elsewhere other away) ∙ sound.live other ∙ sym (live_while_kept other core.hub hub sound.hub (is.others other away)))
       cases
 
   kept_at : IsSound core → IsClient who → IsPlaced who core hub place → (other : ℕ) (own : cache.Own) → (other ≡ who) ⊎ (other ≢ who)
@@ -64,7 +64,7 @@ module _ {V : Type 0} (core : CoreView V) (who : ℕ) (hub : HubView) (place : O
       record {
         client = kept.client;
         capacity = kept.capacity;
-        owns = owns_while_apart core.hub hub own kept.owns (subst (λ number. Apart number core.hub hub) (sym kept.client) (is.others other away));
+        owns = owns_while_kept core.hub hub own sound.hub kept.owns (subst (λ number. KeepsClient number core.hub hub) (sym kept.client) (is.others other away));
       })
       cases
 
@@ -77,12 +77,12 @@ module _ {V : Type 0} (core : CoreView V) (who : ℕ) (hub : HubView) (place : O
     kept = λ other own found. kept_at sound client is other own (cases_eq other who) found;
     least = sound.least;
     most = sound.most;
-    size = same_size ∙ sound.size ∙ sym (pages_stay client is);
+    size = same_size ∙ sound.size ∙ sym (pages_stay sound client is);
     sure = sure;
   }
 
   module _ (state : State) (turn : Turn) (answer : Answer) where
-    owns_at : IsSound core → IsClient who → ((other : ℕ) → other < 33 → own_at state other ≡ own_part core.capacity other (cache_at core other)) → Gives who state turn answer hub (own_part core.capacity who place) → (other : ℕ) → other < 33 → (other ≡ who) ⊎ (other ≢ who)
+    owns_at : IsSound core → IsClient who → ((other : ℕ) → other < 33 → own_at state other ≡ own_part core.capacity other (cache_at core other)) → IsTurnResult who state turn answer hub (own_part core.capacity who place) → (other : ℕ) → other < 33 → (other ≡ who) ⊎ (other ≢ who)
         → own_at turn.state other ≡ own_part core.capacity other (cache_at (placed core who hub place calls vault size told) other)
     owns_at sound client owns gives other below cases =
         ⊎_elim
@@ -92,8 +92,8 @@ module _ {V : Type 0} (core : CoreView V) (who : ℕ) (hub : HubView) (place : O
         (λ (away : other ≢ who). gives.others other away ∙ owns other below ∙ ap (own_part core.capacity other) (sym (elsewhere other away)))
         cases
 
-    pub shape_placed : IsSound core → IsClient who → HasShapeOf state core → Gives who state turn answer hub (own_part core.capacity who place)
-        → HasShapeOf turn.state (placed core who hub place calls vault size told)
+    pub shape_placed : IsSound core → IsClient who → RepresentsButWords state core → IsTurnResult who state turn answer hub (own_part core.capacity who place)
+        → RepresentsButWords turn.state (placed core who hub place calls vault size told)
     shape_placed sound client shape gives = record {
       shared = gives.shared;
       places = gives.places ∙ shape.places;
@@ -109,18 +109,18 @@ module _ {V : Type 0} (core : CoreView V) (who : ℕ) (hub : HubView) (place : O
         (λ (away : other ≢ who).
         let there = sym (elsewhere other away) ∙ found in
         let kept = sound.kept other own there in
-        right_while_apart state.base core.hub hub own kept.owns (subst (λ number. Apart number core.hub hub) (sym kept.client) (is.others other away)) (parts.words other own there))
+        right_while_kept state.base core.hub hub own sound.hub kept.owns (subst (λ number. KeepsClient number core.hub hub) (sym kept.client) (is.others other away)) (parts.words other own there))
         cases
 
-    stored_at : IsClient who → IsPlaced who core hub place → HasPartsOf state core → Gives who state turn answer hub (own_part core.capacity who place)
+    stored_at : IsSound core → IsClient who → IsPlaced who core hub place → HasPartsOf state core → IsTurnResult who state turn answer hub (own_part core.capacity who place)
         → stable_entries turn.state.shared.trail ≡ stable_entries state.shared.trail → AreStored state.base hub core.told.image
-    stored_at client is parts gives same page below =
-        let stored = parts.stored page (subst (λ count. page < count) (pages_stay client is) below) in
+    stored_at sound client is parts gives same page below =
+        let stored = parts.stored page (subst (λ count. page < count) (pages_stay sound client is) below) in
         let entries : stable_entries hub.trail ≡ stable_entries core.hub.trail =
         ap stable_entries (sym gives.shared.trail) ∙ same ∙ ap stable_entries parts.shared.trail in
         record { long = stored.long; each = λ word inside. stored.each word inside ∙ ap (λ list. value_of state.base list page word) (sym entries) }
 
-    pub parts_placed : IsSound core → IsClient who → IsPlaced who core hub place → HasPartsOf state core → Gives who state turn answer hub (own_part core.capacity who place)
+    pub parts_placed : IsSound core → IsClient who → IsPlaced who core hub place → HasPartsOf state core → IsTurnResult who state turn answer hub (own_part core.capacity who place)
         → IsRight state.base hub place → stable_entries turn.state.shared.trail ≡ stable_entries state.shared.trail → told ≡ core.told
         → HasPartsOf turn.state (placed core who hub place calls vault size told)
     parts_placed sound client is parts gives right same same_told = record {
@@ -131,7 +131,7 @@ module _ {V : Type 0} (core : CoreView V) (who : ℕ) (hub : HubView) (place : O
       frames = subst (λ base. FramesAreRight base hub) (sym gives.base) right.frames;
       words = λ other own found. subst (λ base. CacheIsRight base hub own) (sym gives.base) (words_at sound client is parts right other own (cases_eq other who) found);
       stored = subst (λ base. AreStored base hub told.image) (sym gives.base)
-          (subst (λ (one : VaultState). AreStored state.base hub one.image) (sym same_told) (stored_at client is parts gives same));
+          (subst (λ (one : VaultState). AreStored state.base hub one.image) (sym same_told) (stored_at sound client is parts gives same));
     }
 
 -- What a turn of a client adds to a trail makes nothing stable.

@@ -1,7 +1,7 @@
 use Rattle.std.proofs.Common.{◌≡◌, ◌<◌, ◌≤◌, ◌+◌, ◌-◌, ◌^◌, ℕ, Bool, cond, false, List, [], ◌∷◌, ◌++◌, true, true≢false, length, refl, sym, ap, ap₂, ◌∙◌, subst, arith}
 use Rattle.std.specs.Prelude.{IsTrue, min, slice_index_or, Result, Ok, Err, IsOk, OnOk}
 use Rattle.std.proofs.lemmas.Bool.{and_from, and_parts}
-use Rattle.casper_words.specs.Count.{Rose}
+use Rattle.casper_words.specs.Count.{FaultCountRose}
 use Rattle.casper_space.specs.declared.answer.Answer.{Answer}
 use Rattle.casper_space.specs.declared.answer.Answer.TheVariants as answer
 use Rattle.casper_model.specs.declared.event.Event.{Event}
@@ -9,7 +9,7 @@ use Rattle.casper_model.specs.State.{State}
 use Rattle.casper_model.specs.Step.{step}
 use Rattle.casper_model.specs.Run.{Happening, is_disk, fits, all_fit, answers_of, state_after}
 use Rattle.casper_core.specs.CoreView.{CoreView}
-use Rattle.casper_core.specs.Stands.{Stands}
+use Rattle.casper_core.specs.Represents.{Represents}
 use Rattle.casper_core.specs.Stepping.{Steps, Runs, RoseBy, completes, counted, completed_in, failures_in, happening_of, happenings_of}
 
 -- A run of a core, step after step.
@@ -52,12 +52,12 @@ run_more events said one answer core middle after below is runs steps state stan
     record {
       outside_fits = subst (λ happenings. IsTrue (all_fit state happenings)) (sym more) (fit_more state before next run.outside_fits last.outside_fits);
       answers = ap₂ (λ front final. front ++ final ∷ []) run.answers last.answers ∙ sym (answers_more state before next) ∙ ap (answers_of state) (sym more);
-      stands = subst (λ happenings. Stands (state_after state happenings) after) (sym more) (subst (λ one. Stands one after) (sym (after_more state before next)) last.stands);
+      stands = subst (λ happenings. Represents (state_after state happenings) after) (sym more) (subst (λ one. Represents one after) (sym (after_more state before next)) last.stands);
     }
 
 -- where nothing has changed
 pub run_still : {V : Type 0} (events : List Event) (said : List Answer) (core middle after : CoreView V) → Runs events said core middle
-    → ((state : State) → Stands state middle → Stands state after) → Runs events said core after
+    → ((state : State) → Represents state middle → Represents state after) → Runs events said core after
 run_still events said core middle after runs still state stands =
     let run = runs state stands in
     record { outside_fits = run.outside_fits; answers = run.answers; stands = still (state_after state (happenings_of events said)) run.stands }
@@ -83,11 +83,11 @@ is_of_disk : (said : Answer) → is_disk said ≡ true → said ≡ answer.Disk
 is_of_disk answer.Disk is = refl
 is_of_disk other is = absurd (true≢false (sym is))
 
-rose_by : (failed : Bool) (count before middle now : ℕ) → RoseBy count before middle → middle ≤ now → (failed ≡ true → Rose middle now) → RoseBy (count + cond failed 1 0) before now
+rose_by : (failed : Bool) (count before middle now : ℕ) → RoseBy count before middle → middle ≤ now → (failed ≡ true → FaultCountRose middle now) → RoseBy (count + cond failed 1 0) before now
 rose_by true count before middle now is falls rose = let one = rose refl in omega (arith, is, one)
 rose_by false count before middle now is falls rose = omega (arith, is, falls)
 
-pub rose_more : (said : List Answer) (one : Answer) (before middle now : ℕ) → RoseBy (failures_in said) before middle → middle ≤ now → (one ≡ answer.Disk → Rose middle now)
+pub rose_more : (said : List Answer) (one : Answer) (before middle now : ℕ) → RoseBy (failures_in said) before middle → middle ≤ now → (one ≡ answer.Disk → FaultCountRose middle now)
     → RoseBy (failures_in (said ++ one ∷ [])) before now
 rose_more said one before middle now is falls rose =
     subst (λ count. RoseBy count before now) (sym (failures_more said one))

@@ -6,13 +6,13 @@ use Rattle.casper_space.specs.declared.answer.Answer.{Answer}
 use Rattle.casper_model.specs.declared.event.Event.{Event}
 use Rattle.casper_model.specs.Own as machine
 use Rattle.casper_model.specs.State.{State}
+use Rattle.casper_hub.proofs.StandsFor.{stands_for}
 use Rattle.casper_core.specs.CoreView.{CoreView, cache_at}
-use Rattle.casper_core.specs.Shaped.{HasShapeOf, StepsInShape, RunsInShape, step_with, state_with, answers_with}
+use Rattle.casper_core.specs.Shaped.{RepresentsButWords, StepsInShape, RunsInShape, step_with, state_with, answers_with}
 use Rattle.casper_core.specs.Sound.{IsSound}
-use Rattle.casper_core.specs.Stands.{own_part}
+use Rattle.casper_core.specs.Represents.{own_part}
 use Rattle.casper_core.specs.Stepping.{IsUnchanged}
 use Rattle.casper_core.proofs.Loads.{shows_loaded}
-use Rattle.casper_hub.proofs.Witness.{some_shared, some_shows}
 
 -- A run of a core over any vault, step after step.
 
@@ -20,19 +20,19 @@ use Rattle.casper_hub.proofs.Witness.{some_shared, some_shows}
 own_in : {V : Type 0} → CoreView V → ℕ → machine.Own
 own_in core who = own_part core.capacity who (cache_at core who)
 
-pub some_state : {V : Type 0} (core : CoreView V) → IsSound core → (state : State) × HasShapeOf state core
+pub some_state : {V : Type 0} (core : CoreView V) → IsSound core → (state : State) × RepresentsButWords state core
 unfolding own_in
 some_state core sound = (
-  record { base = []; shared = some_shared core.hub; owns = map (own_in core) (range_with_len 0 33); vault = core.told; unfinished = None },
+  record { base = []; shared = (stands_for core.hub sound.hub.stands).shared; owns = map (own_in core) (range_with_len 0 33); vault = core.told; unfinished = None },
   record {
-    shared = some_shows core.hub sound.hub;
+    shared = (stands_for core.hub sound.hub.stands).shows;
     places = length-map-range_with_len (own_in core) 0 33;
     owns = λ who below. get_or-map-range_with_len (own_in core) 0 33 who who (machine.blank who 0) below (omega arith);
   },
 )
 
 -- where nothing of the state has changed
-pub shape_unchanged : {V : Type 0} (state : State) (core after : CoreView V) → IsUnchanged core after → HasShapeOf state core → HasShapeOf state after
+pub shape_unchanged : {V : Type 0} (state : State) (core after : CoreView V) → IsUnchanged core after → RepresentsButWords state core → RepresentsButWords state after
 shape_unchanged state core after same shape = record {
   shared = shows_loaded state.shared core.hub after.hub same.hub shape.shared;
   places = shape.places;
@@ -63,7 +63,7 @@ made_more events said one last core middle after below is runs steps state shape
     let made = steps (state_with state events said) run.shape in
     record {
       answers = ap₂ (λ front final. front ++ final ∷ []) run.answers made.answers ∙ sym (answers_more state events said one last below is);
-      shape = subst (λ one. HasShapeOf one after) (sym (state_more state events said one last below is)) made.shape;
+      shape = subst (λ one. RepresentsButWords one after) (sym (state_more state events said one last below is)) made.shape;
     }
 
 pub made_still : {V : Type 0} (events : List Event) (said : List Answer) (core middle after : CoreView V) → RunsInShape events said core middle → IsUnchanged middle after

@@ -10,8 +10,7 @@ use Rattle.casper_trail.specs.Parts.{stable_entries}
 use Rattle.casper_space.specs.declared.answer.Answer.{Answer}
 use Rattle.casper_cache.specs.Own as cache
 use Rattle.casper_model.specs.declared.event.Event.{Event}
-use Rattle.casper_model.specs.Client.{Client}
-use Rattle.casper_model.specs.Shared.{Shared, client_at, is_live}
+use Rattle.casper_model.specs.Shared.{is_live}
 use Rattle.casper_model.specs.Outside.{Outside, NothingFailed, LoadFailed}
 use Rattle.casper_model.specs.Rights.{NamesClients}
 use Rattle.casper_model.specs.State.{State, own_at}
@@ -32,13 +31,14 @@ use Rattle.casper_model.specs.Growth.{StepAdds}
 use Rattle.casper_model.proofs.StepAdditions.{step_adds}
 use Rattle.casper_core.specs.UnheldPages.{UnheldPagesAreRight}
 use Rattle.casper_trail.specs.Legal.{IsLegal}
-use Rattle.casper_hub.specs.Shows.{Shows, ShowsClient}
-use Rattle.casper_core.specs.Acting.{outside_of, IsPart, Gives, Does, Leaves, Holds}
+use Rattle.casper_hub.specs.Shows.{Shows}
+use Rattle.casper_hub.proofs.Showing.{liveness_shown}
+use Rattle.casper_core.specs.Acting.{outside_of, IsPart, IsTurnResult, RefinesTurn, KeepsHubRight, Holds}
 use Rattle.casper_core.specs.CoreView.{CoreView, cache_at}
 use Rattle.casper_core.specs.Placing.{placed, IsPlaced, IsRight}
-use Rattle.casper_core.specs.Shaped.{IsShape, HasShapeOf, IsMade, step_with}
+use Rattle.casper_core.specs.Shaped.{IsShape, RepresentsButWords, IsMade, step_with}
 use Rattle.casper_core.specs.Sound.{IsSound}
-use Rattle.casper_core.specs.Stands.{own_part, HasPartsOf, Stands}
+use Rattle.casper_core.specs.Represents.{own_part, HasPartsOf, Represents}
 use Rattle.casper_core.specs.Stepping.{IsAnswered, Steps, HasLegalTrail}
 use Rattle.casper_core.proofs.Places.{parts_placed}
 
@@ -52,23 +52,12 @@ tells_by answer false is = refl
 pub answer_tells : (said : Answer) → tells_of (outside_of said) said ≡ true
 answer_tells said = tells_by said (is_disk said) refl
 
--- a client is live to the machine where it is live to the hub
-live_place : (shared : Shared) (hub : HubView) (who : ℕ) (place : Option Client) (shown : Option ClientView) → ShowsClient hub.trail hub.pages.rights who place shown
-    → is_some place ≡ is_some shown
-live_place shared hub who None None is = refl
-live_place shared hub who None (Some shown) is = absurd is
-live_place shared hub who (Some client) None is = absurd is
-live_place shared hub who (Some client) (Some shown) is = refl
-
-pub live_shown : (shared : Shared) (hub : HubView) (who : ℕ) → Shows shared hub → is_live shared who ≡ is_some (client_in hub who)
-live_shown shared hub who shows = live_place shared hub who (client_at shared who) (client_in hub who) (shows.clients who)
-
 pub live_where : {V : Type 0} (core : CoreView V) (who : ℕ) (live : Bool) (state : State) → IsSound core → Shows state.shared core.hub → is_some (cache_at core who) ≡ live
     → is_live state.shared who ≡ live
-live_where core who live state sound shows is = live_shown state.shared core.hub who shows ∙ sym (sound.live who) ∙ is
+live_where core who live state sound shows is = liveness_shown state.shared core.hub shows who ∙ sym (sound.live who) ∙ is
 
 -- an answer that is the machine's
-pub answered_by : {V : Type 0} (state : State) (event : Event) (said : Answer) (core after : CoreView V) → NamesClients event → Stands state core
+pub answered_by : {V : Type 0} (state : State) (event : Event) (said : Answer) (core after : CoreView V) → NamesClients event → Represents state core
     → said ≡ (step state event (outside_of said)).answer → HasPartsOf (step state event (outside_of said)).state after → IsAnswered state event said after
 answered_by state event said core after named stands is parts = record {
   outside_fits = ap (tells_of (outside_of said)) (sym is) ∙ answer_tells said;
@@ -81,7 +70,7 @@ answered_by state event said core after named stands is parts = record {
 }
 
 -- an answer where nothing has changed
-pub answered_same : {V : Type 0} (state : State) (event : Event) (said : Answer) (core after : CoreView V) → NamesClients event → Stands state core
+pub answered_same : {V : Type 0} (state : State) (event : Event) (said : Answer) (core after : CoreView V) → NamesClients event → Represents state core
     → step state event (outside_of said) ≡ record { answer = said; state = state } → HasPartsOf state after → IsAnswered state event said after
 answered_same state event said core after named stands is parts =
     answered_by state event said core after named stands (sym (ap (λ (turn : Turn). turn.answer) is)) (subst (λ (turn : Turn). HasPartsOf turn.state after) (sym is) parts)
@@ -94,7 +83,7 @@ pub passed_by : (test : Bool) (refusal : Answer) (state : State) (turn : State �
 passed_by test refusal state turn is = ap (λ b. guarded b refusal state turn) is
 
 -- the part of a state that is a client's
-pub part_of : {V : Type 0} (core : CoreView V) (who : ℕ) (own : cache.Own) (state : State) → IsClient who → cache_at core who ≡ Some own → Stands state core
+pub part_of : {V : Type 0} (core : CoreView V) (who : ℕ) (own : cache.Own) (state : State) → IsClient who → cache_at core who ≡ Some own → Represents state core
     → IsPart who core.told.image state core.hub own
 part_of core who own state client found stands = record {
   shared = stands.parts.shared;
@@ -105,9 +94,9 @@ part_of core who own state client found stands = record {
   words = stands.parts.words who own found;
 }
 
--- behind a turn of a client that leaves it its cache
+-- after a turn of a client that leaves it its cache
 pub placed_again : {V : Type 0} (core : CoreView V) (who : ℕ) (own : cache.Own) (tells : Bool) (image : List (List ℕ)) (after : HubView) (own_after : cache.Own)
-    → IsSound core → cache_at core who ≡ Some own → Leaves who tells image core.hub own after → Holds who tells image core.hub own after own_after
+    → IsSound core → cache_at core who ≡ Some own → KeepsHubRight who tells image core.hub own after → Holds who tells image core.hub own after own_after
     → IsPlaced who core after (Some own_after)
 placed_again core who own tells image after own_after sound found leaves holds = record {
   sound = leaves.sound;
@@ -122,7 +111,7 @@ placed_again core who own tells image after own_after sound found leaves holds =
     some_is is = ap (λ o. unwrap_or o own) is
 
 pub right_again : {V : Type 0} (core : CoreView V) (who : ℕ) (own : cache.Own) (tells : Bool) (state : State) (after : HubView) (own_after : cache.Own) → IsTrue tells
-    → cache_at core who ≡ Some own → HasPartsOf state core → Leaves who tells core.told.image core.hub own after → Holds who tells core.told.image core.hub own after own_after
+    → cache_at core who ≡ Some own → HasPartsOf state core → KeepsHubRight who tells core.told.image core.hub own after → Holds who tells core.told.image core.hub own after own_after
     → IsRight state.base after (Some own_after)
 right_again core who own tells state after own_after told found parts leaves holds = record {
   frames = leaves.frames told state.base parts.stored parts.frames (parts.words who own found);
@@ -133,21 +122,21 @@ right_again core who own tells state after own_after told found parts leaves hol
 pub client_answered : {V : Type 0} (core : CoreView V) (who : ℕ) (own : cache.Own) (event : Event) (said : Answer) (turn : Outside → State → Turn) (tells : Bool) (after : HubView) (own_after : cache.Own)
     (calls : ℕ) (vault : V) (size : ℕ) (told : VaultState) → IsTrue tells → IsSound core → IsClient who → cache_at core who ≡ Some own → NamesClients event
     → ((state : State) → stable_entries (step state event (outside_of said)).state.shared.trail ≡ stable_entries state.shared.trail)
-    → ((state : State) → Stands state core → step state event (outside_of said) ≡ turn (outside_of said) state)
-    → Does who tells core.told.image turn core.hub own said after own_after
-    → Leaves who tells core.told.image core.hub own after → Holds who tells core.told.image core.hub own after own_after → told ≡ core.told
+    → ((state : State) → Represents state core → step state event (outside_of said) ≡ turn (outside_of said) state)
+    → RefinesTurn who tells core.told.image turn core.hub own said after own_after
+    → KeepsHubRight who tells core.told.image core.hub own after → Holds who tells core.told.image core.hub own after own_after → told ≡ core.told
     → Steps event said core (placed core who after (Some own_after) calls vault size told)
 client_answered core who own event said turn tells after own_after calls vault size told is_told sound client found named stable is does leaves holds same state stands =
     let gives = does is_told state (part_of core who own state client found stands) in
-    let of_step : Gives who state (step state event (outside_of said)) said after (own_of own_after) =
-    subst (λ one. Gives who state one said after (own_of own_after)) (sym (is state stands)) gives in
+    let of_step : IsTurnResult who state (step state event (outside_of said)) said after (own_of own_after) =
+    subst (λ one. IsTurnResult who state one said after (own_of own_after)) (sym (is state stands)) gives in
     answered_by state event said core (placed core who after (Some own_after) calls vault size told) named stands of_step.answers
     (parts_placed core who after (Some own_after) calls vault size told state (step state event (outside_of said)) said sound client
     (placed_again core who own tells core.told.image after own_after sound found leaves holds) stands.parts of_step
     (right_again core who own tells state after own_after is_told found stands.parts leaves holds) (stable state) same)
 
 -- the trail of a core that stands for a state is legal
-pub legal_of : {V : Type 0} (state : State) (core : CoreView V) → Stands state core → HasLegalTrail state core
+pub legal_of : {V : Type 0} (state : State) (core : CoreView V) → Represents state core → HasLegalTrail state core
 legal_of state core stands = record {
   trail = subst (IsLegal state.base) stands.parts.shared.trail stands.history.history.legal;
   whole = whole_legal state stands.history;
@@ -173,7 +162,7 @@ sound_counted core calls sound = record {
   sure = sound.sure;
 }
 
-pub stands_counted : {V : Type 0} (state : State) (core : CoreView V) (calls : ℕ) → Stands state core → Stands state (record core { calls = calls })
+pub stands_counted : {V : Type 0} (state : State) (core : CoreView V) (calls : ℕ) → Represents state core → Represents state (record core { calls = calls })
 stands_counted state core calls stands = record {
   parts = record {
     shared = stands.parts.shared;
@@ -196,11 +185,11 @@ answered_counted state event said core calls is = record {
 }
 
 -- a state that a core stands for has its shape
-pub shape_of : {V : Type 0} (state : State) (core : CoreView V) → Stands state core → HasShapeOf state core
+pub shape_of : {V : Type 0} (state : State) (core : CoreView V) → Represents state core → RepresentsButWords state core
 shape_of state core stands = record { shared = stands.parts.shared; places = stands.history.order.shaped.owns; owns = stands.parts.owns }
 
 -- the part of a state that is a client's
-pub shape_at : {V : Type 0} (core : CoreView V) (who : ℕ) (own : cache.Own) (state : State) → IsClient who → cache_at core who ≡ Some own → HasShapeOf state core
+pub shape_at : {V : Type 0} (core : CoreView V) (who : ℕ) (own : cache.Own) (state : State) → IsClient who → cache_at core who ≡ Some own → RepresentsButWords state core
     → IsShape who state core.hub own
 shape_at core who own state client found shape = record {
   shared = shape.shared;
@@ -209,7 +198,7 @@ shape_at core who own state client found shape = record {
 }
 
 -- the own part of a client has its number
-pub number_at : {V : Type 0} (core : CoreView V) (who : ℕ) (state : State) → IsSound core → HasShapeOf state core → (own_at state who).who ≡ who
+pub number_at : {V : Type 0} (core : CoreView V) (who : ℕ) (state : State) → IsSound core → RepresentsButWords state core → (own_at state who).who ≡ who
 number_at core who state sound shape =
     ⊎_elim (λ below. ap (λ (own : machine.Own). own.who) (shape.owns who below) ∙ by_place (cache_at core who) refl)
     (λ past. ap (λ (own : machine.Own). own.who) (get_or_past state.owns who (machine.blank who 0) (omega (arith, past, shape.places)))) (cases_lt who 33)
@@ -219,11 +208,11 @@ number_at core who state sound shape =
     by_place (Some own) is = (sound.kept who own is).client
 
 -- an answer where nothing has changed
-pub made_same : {V : Type 0} (state : State) (event : Event) (said : Answer) (after : CoreView V) → step_with state event said ≡ record { answer = said; state = state } → HasShapeOf state after
+pub made_same : {V : Type 0} (state : State) (event : Event) (said : Answer) (after : CoreView V) → step_with state event said ≡ record { answer = said; state = state } → RepresentsButWords state after
     → IsMade state event said after
 made_same state event said after is shape = record {
   answers = sym (ap (λ (turn : Turn). turn.answer) is);
-  shape = subst (λ (turn : Turn). HasShapeOf turn.state after) (sym is) shape;
+  shape = subst (λ (turn : Turn). RepresentsButWords turn.state after) (sym is) shape;
 }
 
 -- the calls that were counted are no part of the shape
@@ -240,12 +229,12 @@ unheld_page : (value stored : ℕ → ℕ → ℕ) (page : ℕ) (kept : List ℕ
 unheld_page value stored page kept None are same = record { long = are.long; each = λ word below. are.each word below ∙ sym (same word below) }
 unheld_page value stored page kept (Some words) are same = same
 
-pub unheld_of : {V : Type 0} (state : State) (core : CoreView V) → Stands state core → UnheldPagesAreRight state core
+pub unheld_of : {V : Type 0} (state : State) (core : CoreView V) → Represents state core → UnheldPagesAreRight state core
 unheld_of state core stands page below free =
     unheld_page (live_value state.base core.hub) (stored_value state.base core.hub) page (page_at core.told.image page) (frame_in core.hub.pages page) (stands.parts.stored page below)
     (stands.parts.frames page free)
 
 -- what a step adds to the trail
-pub adds_of : {V : Type 0} (event : Event) (said : Answer) (core after : CoreView V) → Steps event said core after → (state : State) → Stands state core → StepAdds state event after.hub.trail
+pub adds_of : {V : Type 0} (event : Event) (said : Answer) (core after : CoreView V) → Steps event said core after → (state : State) → Represents state core → StepAdds state event after.hub.trail
 adds_of event said core after steps state stands =
     subst (StepAdds state event) (steps state stands).stands.parts.shared.trail (step_adds state event (outside_of said))

@@ -10,7 +10,7 @@ use Rattle.casper_hub.specs.HubView.{HubView}
 use Rattle.casper_hub.specs.Owned.{Owns, own_of}
 use Rattle.casper_hub.specs.Shows.{Shows}
 use Rattle.casper_hub.specs.Sound.{IsSound}
-use Rattle.casper_hub.specs.Apart.{Apart}
+use Rattle.casper_hub.specs.GoesOn.{KeepsClient}
 use Rattle.casper_hub.specs.Words.{FramesAreRight, CacheIsRight}
 use Rattle.casper_core.specs.Loading.{AreStored}
 
@@ -28,7 +28,7 @@ pub record IsPart (who : ℕ) (image : List (List ℕ)) (state : State) (hub : H
   pub words : CacheIsRight state.base hub own
 
 -- a turn from a state gives this answer, this hub and this own part of a client, and leaves the rest
-pub record Gives (who : ℕ) (state : State) (turn : Turn) (answer : Answer) (hub : HubView) (own : machine.Own) : Type 0 where
+pub record IsTurnResult (who : ℕ) (state : State) (turn : Turn) (answer : Answer) (hub : HubView) (own : machine.Own) : Type 0 where
   pub answers : answer ≡ turn.answer
   pub shared : Shows turn.state.shared hub
   pub places : length turn.state.owns ≡ length state.owns
@@ -40,14 +40,14 @@ pub record Gives (who : ℕ) (state : State) (turn : Turn) (answer : Answer) (hu
 
 -- where the vault tells its image: from each state of which a hub and a client's cache are parts, the machine's turn gives this answer,
 -- hub and cache
-abbrev pub Does : ℕ → Bool → List (List ℕ) → (Outside → State → Turn) → HubView → cache.Own → Answer → HubView → cache.Own → Type 0
-Does who tells image turn hub own answer after own_after =
-    IsTrue tells → (state : State) → IsPart who image state hub own → Gives who state (turn (outside_of answer) state) answer after (own_of own_after)
+abbrev pub RefinesTurn : ℕ → Bool → List (List ℕ) → (Outside → State → Turn) → HubView → cache.Own → Answer → HubView → cache.Own → Type 0
+RefinesTurn who tells image turn hub own answer after own_after =
+    IsTrue tells → (state : State) → IsPart who image state hub own → IsTurnResult who state (turn (outside_of answer) state) answer after (own_of own_after)
 
 -- a turn of a client leaves the hub sound, what the others rely on, and the frames right
-pub record Leaves (who : ℕ) (tells : Bool) (image : List (List ℕ)) (hub : HubView) (own : cache.Own) (after : HubView) : Type 0 where
+pub record KeepsHubRight (who : ℕ) (tells : Bool) (image : List (List ℕ)) (hub : HubView) (own : cache.Own) (after : HubView) : Type 0 where
   pub sound : IsSound after
-  pub others : (other : ℕ) → other ≢ who → Apart other hub after
+  pub others : (other : ℕ) → other ≢ who → KeepsClient other hub after
   pub frames : IsTrue tells → (base : List (List ℕ)) → AreStored base hub image → FramesAreRight base hub → CacheIsRight base hub own
       → FramesAreRight base after
 

@@ -6,6 +6,6 @@ pub mod Loading
 pub mod Placing
 pub mod Shaped
 pub mod Sound
-pub mod Stands
+pub mod Represents
 pub mod Stepping
 pub mod UnheldPages

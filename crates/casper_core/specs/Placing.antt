@@ -4,7 +4,7 @@ use Rattle.casper_model.specs.Vault.{VaultState}
 use Rattle.casper_hub.specs.HubView.{HubView, is_live}
 use Rattle.casper_hub.specs.Owned.{Owns}
 use Rattle.casper_hub.specs.Sound.{IsSound}
-use Rattle.casper_hub.specs.Apart.{Apart}
+use Rattle.casper_hub.specs.GoesOn.{KeepsClient}
 use Rattle.casper_hub.specs.Words.{FramesAreRight, CacheIsRight}
 use Rattle.casper_core.specs.CoreView.{CoreView}
 
@@ -20,10 +20,10 @@ placed core who hub place calls vault size told = record {
   told = told;
 }
 
--- what stands at the place of a client behind a turn of it
+-- what stands at the place of a client after a turn of it
 pub record IsPlaced {V : Type 0} (who : ℕ) (core : CoreView V) (after : HubView) (place : Option cache.Own) : Type 0 where
   pub sound : IsSound after
-  pub others : (other : ℕ) → other ≢ who → Apart other core.hub after
+  pub others : (other : ℕ) → other ≢ who → KeepsClient other core.hub after
   pub live : is_some place ≡ is_live after who
   pub client : (own : cache.Own) → place ≡ Some own → own.client ≡ who
   pub same_capacity : (own : cache.Own) → place ≡ Some own → own.capacity ≡ core.capacity

@@ -14,10 +14,10 @@ use Rattle.casper_model.specs.Turn.{Turn, of_live, within, is_in_range}
 use Rattle.casper_hub.specs.HubView.{HubView}
 use Rattle.casper_hub.specs.Owned.{own_of}
 use Rattle.casper_hub.specs.Shows.{Shows}
-use Rattle.casper_core.specs.Acting.{outside_of, Gives}
+use Rattle.casper_core.specs.Acting.{outside_of, IsTurnResult}
 use Rattle.casper_core.specs.ClientTurns.{client_turn}
 use Rattle.casper_core.specs.CoreView.{CoreView, cache_at}
-use Rattle.casper_core.specs.Stands.{own_part}
+use Rattle.casper_core.specs.Represents.{own_part}
 
 -- What holds over every vault, also one that tells nothing: each turn is the machine's, but that a read has the value that was answered.
 
@@ -44,25 +44,25 @@ pub record IsShape (who : ℕ) (state : State) (hub : HubView) (own : cache.Own)
   pub part : own_at state who ≡ own_of own
 
 -- from each state of which a hub and a client's cache are parts, the machine's turn gives this answer, hub and cache
-abbrev pub Makes : ℕ → (Answer → State → Turn) → HubView → cache.Own → Answer → HubView → cache.Own → Type 0
-Makes who turn hub own answer after own_after = (state : State) → IsShape who state hub own → Gives who state (turn answer state) answer after (own_of own_after)
+abbrev pub RefinesTurnButValues : ℕ → (Answer → State → Turn) → HubView → cache.Own → Answer → HubView → cache.Own → Type 0
+RefinesTurnButValues who turn hub own answer after own_after = (state : State) → IsShape who state hub own → IsTurnResult who state (turn answer state) answer after (own_of own_after)
 
 -- the shared part and the own parts of a core are those of a state of the machine; nothing is said of words, or of what the vault tells
-pub record HasShapeOf {V : Type 0} (state : State) (core : CoreView V) : Type 0 where
+pub record RepresentsButWords {V : Type 0} (state : State) (core : CoreView V) : Type 0 where
   pub shared : Shows state.shared core.hub
   pub places : length state.owns ≡ 33
   pub owns : (who : ℕ) → who < 33 → own_at state who ≡ own_part core.capacity who (cache_at core who)
 
--- the answer to an event is that of the machine's step, and the core behind it has the shape of the state behind it
+-- the answer to an event is that of the machine's step, and the core after it has the shape of the state after it
 pub record IsMade {V : Type 0} (state : State) (event : Event) (answer : Answer) (after : CoreView V) : Type 0 where
   pub answers : answer ≡ (step_with state event answer).answer
-  pub shape : HasShapeOf (step_with state event answer).state after
+  pub shape : RepresentsButWords (step_with state event answer).state after
 
 -- so it is from each state whose shape the core had
 abbrev pub StepsInShape : {V : Type 0} → Event → Answer → CoreView V → CoreView V → Type 0
-StepsInShape event answer core after = (state : State) → HasShapeOf state core → IsMade state event answer after
+StepsInShape event answer core after = (state : State) → RepresentsButWords state core → IsMade state event answer after
 
--- the state behind the first of some events, which were answered so
+-- the state after the first of some events, which were answered so
 abbrev pub state_with : State → List Event → List Answer → State
 state_with state events [] = state
 state_with state [] (answer ∷ said) = state
@@ -76,11 +76,11 @@ answers_with state (event ∷ events) (answer ∷ said) =
     let turn = step_with state event answer in
     turn.answer ∷ answers_with turn.state events said
 
--- the answers to the first of some events are those of the machine, and the core behind them has the shape of the state behind them
+-- the answers to the first of some events are those of the machine, and the core after them has the shape of the state after them
 pub record IsRunMade {V : Type 0} (state : State) (events : List Event) (said : List Answer) (after : CoreView V) : Type 0 where
   pub answers : said ≡ answers_with state events said
-  pub shape : HasShapeOf (state_with state events said) after
+  pub shape : RepresentsButWords (state_with state events said) after
 
 -- so it is from each state whose shape the core had
 abbrev pub RunsInShape : {V : Type 0} → List Event → List Answer → CoreView V → CoreView V → Type 0
-RunsInShape events said core after = (state : State) → HasShapeOf state core → IsRunMade state events said after
+RunsInShape events said core after = (state : State) → RepresentsButWords state core → IsRunMade state events said after

@@ -11,7 +11,7 @@ use Rattle.casper_model.specs.WholeHistory.{whole_of}
 use Rattle.casper_core.specs.Acting.{outside_of}
 use Rattle.casper_core.specs.CoreView.{CoreView}
 use Rattle.casper_core.specs.Loading.{OnlyLoads}
-use Rattle.casper_core.specs.Stands.{Stands}
+use Rattle.casper_core.specs.Represents.{Represents}
 
 -- an event for which there is a turn as yet
 abbrev pub IsBuilt : Event → Type 0
@@ -32,15 +32,15 @@ IsBuilt (event.Lose who) = ⊥
 abbrev pub happening_of : Event → Answer → Happening
 happening_of event answer = record { event = event; outside = outside_of answer }
 
--- the answer to an event is that of the machine's step, and the core behind it stands for the state behind it
+-- the answer to an event is that of the machine's step, and the core after it stands for the state after it
 pub record IsAnswered {V : Type 0} (state : State) (event : Event) (answer : Answer) (after : CoreView V) : Type 0 where
   pub outside_fits : IsTrue (fits state (happening_of event answer))
   pub answers : answer ≡ (step state event (outside_of answer)).answer
-  pub stands : Stands (step state event (outside_of answer)).state after
+  pub stands : Represents (step state event (outside_of answer)).state after
 
 -- so it is from each state that the core stood for
 abbrev pub Steps : {V : Type 0} → Event → Answer → CoreView V → CoreView V → Type 0
-Steps event answer core after = (state : State) → Stands state core → IsAnswered state event answer after
+Steps event answer core after = (state : State) → Represents state core → IsAnswered state event answer after
 
 -- nothing of the state has changed, but the server may have got frames
 pub record IsUnchanged {V : Type 0} (core after : CoreView V) : Type 0 where
@@ -60,7 +60,7 @@ abbrev pub counted : Bool → ℕ → ℕ
 counted true calls = min (calls + 1) (2 ^ 64 - 1)
 counted false calls = calls
 
--- the trail is legal, and so it is with all pending calls behind it
+-- the trail is legal, and so it is with all pending calls after it
 pub record HasLegalTrail {V : Type 0} (state : State) (core : CoreView V) : Type 0 where
   pub trail : IsLegal state.base core.hub.trail
   pub whole : IsLegal state.base (whole_of state)
@@ -71,15 +71,15 @@ happenings_of events [] = []
 happenings_of [] (answer ∷ said) = []
 happenings_of (event ∷ events) (answer ∷ said) = happening_of event answer ∷ happenings_of events said
 
--- the answers to the first of some events are those of the machine, and the core behind them stands for the state behind them
+-- the answers to the first of some events are those of the machine, and the core after them stands for the state after them
 pub record IsRun {V : Type 0} (state : State) (events : List Event) (said : List Answer) (after : CoreView V) : Type 0 where
   pub outside_fits : IsTrue (all_fit state (happenings_of events said))
   pub answers : said ≡ answers_of state (happenings_of events said)
-  pub stands : Stands (state_after state (happenings_of events said)) after
+  pub stands : Represents (state_after state (happenings_of events said)) after
 
 -- so it is from each state that the core stood for
 abbrev pub Runs : {V : Type 0} → List Event → List Answer → CoreView V → CoreView V → Type 0
-Runs events said core after = (state : State) → Stands state core → IsRun state events said after
+Runs events said core after = (state : State) → Represents state core → IsRun state events said after
 
 -- how many calls were completed, by the answers to the first of some events
 abbrev pub completed_in : List Event → List Answer → ℕ

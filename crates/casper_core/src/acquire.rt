@@ -1,11 +1,11 @@
 ghost use Rattle.std.specs.Prelude.{◌≡◌, ◌≢◌, ◌<◌, ◌≤◌, ℕ, List, None, IfOk, OnErr, Contains};
-ghost use Rattle.casper_words.specs.Count.{Rose};
+ghost use Rattle.casper_words.specs.Count.{FaultCountRose};
 ghost use Rattle.casper_words.specs.Wants.{AreWants};
 ghost use Rattle.casper_words.specs.declared.page.Want.{Want as AWant};
 ghost use Rattle.casper_hub.specs.HubView.{page_count};
 ghost use Rattle.casper_hub.specs.Owned.{Owns};
 ghost use Rattle.casper_hub.specs.Sound.{IsSound};
-ghost use Rattle.casper_core.specs.Acting.{Leaves, Holds};
+ghost use Rattle.casper_core.specs.Acting.{KeepsHubRight, Holds};
 ghost use Rattle.casper_core.specs.Loading.{OnlyReads, OnlyLoads, Acquired};
 
 use crate::load::load;
@@ -17,11 +17,11 @@ use casper_trail::Mark;
 use casper_words::{Memory, Want, Who};
 use std::alloc::Global;
 
-/// The most turns that one acquire takes: one for each of four pages that has to be read, and one behind them.
+/// The most turns that one acquire takes: one for each of four pages that has to be read, and one after them.
 const MOST_TURNS: u32 = 5;
 
 /// A turn in which a live client wants pages, and room for so many calls. A page that has to be read first is read, and the turn is
-/// made behind that. None where a page could not be read. Then, and after Memory, nothing has changed, but the server may have got
+/// made after that. None where a page could not be read. Then, and after Memory, nothing has changed, but the server may have got
 /// frames.
 pub(crate) fn acquire<V: Vault>(
     alloc: Global,
@@ -41,13 +41,16 @@ pub(crate) fn acquire<V: Vault>(
     requires size { V.size vault.old ≡ page_count hub.old }
     requires sure { V.doubt vault.old ≡ None }
     requires sound { IsSound hub.old }
-    ensures turn { IfOk result (λ reply. Acquired hub.old cache.old wants.now calls reply hub.new cache.new) }
-    ensures failed { IfOk result (λ reply. reply ≡ None → Rose (V.faults vault.old) (V.faults vault.new)) }
+    ensures turn { IfOk result
+        (λ reply. Acquired hub.old cache.old wants.now calls reply hub.new cache.new) }
+    ensures failed { IfOk result (λ reply. reply ≡ None
+        → FaultCountRose (V.faults vault.old) (V.faults vault.new)) }
     ensures memory { OnErr result (OnlyLoads hub.old hub.new) }
     ensures cache_stays { OnErr result (cache.new ≡ cache.old) }
-    ensures leaves { Leaves who V.tells (V.image vault.old) hub.old cache.old hub.new }
+    ensures leaves { KeepsHubRight who V.tells (V.image vault.old) hub.old cache.old hub.new }
     ensures holds { Holds who V.tells (V.image vault.old) hub.old cache.old hub.new cache.new }
-    ensures vault { OnlyReads V.tells V.size V.image V.version V.room V.doubt V.images_now V.moment V.images_since V.faults V.leads_to vault.old vault.new }
+    ensures vault { OnlyReads V.tells V.size V.image V.version V.room V.doubt V.images_now V.moment
+        V.images_since V.faults V.leads_to vault.old vault.new }
 {
     let _mark: Option<Mark> = None;
     for _turn in 0..MOST_TURNS {

@@ -1,15 +1,15 @@
 ghost use Rattle.std.specs.Prelude.{◌≡◌, ◌<◌, ℕ, None, IfOk, OnErr, [], ◌∷◌};
-ghost use Rattle.casper_words.specs.Count.{Rose};
+ghost use Rattle.casper_words.specs.Count.{FaultCountRose};
 ghost use Rattle.casper_space.specs.declared.answer.Answer.TheVariants as said;
 ghost use Rattle.casper_model.specs.Step.{read_turn, write_turn, acquire_turn, serve_turn};
 ghost use Rattle.casper_model.specs.Turn.{within, is_in_range, are_in_range};
 ghost use Rattle.casper_hub.specs.HubView.{page_count};
 ghost use Rattle.casper_hub.specs.Owned.{Owns};
 ghost use Rattle.casper_hub.specs.Sound.{IsSound};
-ghost use Rattle.casper_core.specs.Acting.{outside_of, Does, Leaves, Holds};
+ghost use Rattle.casper_core.specs.Acting.{outside_of, RefinesTurn, KeepsHubRight, Holds};
 ghost use Rattle.casper_core.specs.ClientTurns.{IsTurnOf, client_turn};
 ghost use Rattle.casper_core.specs.Loading.{OnlyReads, OnlyLoads};
-ghost use Rattle.casper_core.specs.Shaped.{Makes, read_with, client_turn_with};
+ghost use Rattle.casper_core.specs.Shaped.{RefinesTurnButValues, read_with, client_turn_with};
 
 use crate::acquire::acquire;
 use crate::answers::{answer_of, answer_of_serve};
@@ -20,11 +20,8 @@ use casper_hub::Hub;
 use casper_model::Event;
 use casper_space::Answer;
 use casper_trail::Mark;
-use casper_words::{Memory, Page, Wants, Who};
+use casper_words::{Frame, Memory, Page, Wants, Who};
 use std::alloc::Global;
-
-/// How many words a page has.
-const WORDS: u32 = 512;
 
 /// A read, of a word within the store.
 fn read_within<V: Vault>(
@@ -41,17 +38,25 @@ fn read_within<V: Vault>(
     requires size { V.size vault.old ≡ page_count hub.old }
     requires sure { V.doubt vault.old ≡ None }
     requires sound { IsSound hub.old }
-    ensures makes { IfOk result (λ answer. Makes who (λ answer. within (is_in_range page word) (read_with who page word answer)) hub.old cache.old answer hub.new cache.new) }
-    ensures does { IfOk result (λ answer. Does who V.tells (V.image vault.old) (λ outside. within (is_in_range page word) (read_turn who page word outside)) hub.old cache.old answer hub.new cache.new) }
-    ensures failed { IfOk result (λ answer. answer ≡ said.Disk → Rose (V.faults vault.old) (V.faults vault.new)) }
+    ensures makes { IfOk result
+        (λ answer. RefinesTurnButValues who
+        (λ answer. within (is_in_range page word)
+        (read_with who page word answer)) hub.old cache.old answer hub.new cache.new) }
+    ensures does { IfOk result
+        (λ answer. RefinesTurn who V.tells (V.image vault.old)
+        (λ outside. within (is_in_range page word)
+        (read_turn who page word outside)) hub.old cache.old answer hub.new cache.new) }
+    ensures failed { IfOk result (λ answer. answer ≡ said.Disk
+        → FaultCountRose (V.faults vault.old) (V.faults vault.new)) }
     ensures memory { OnErr result (OnlyLoads hub.old hub.new) }
     ensures cache_stays { OnErr result (cache.new ≡ cache.old) }
-    ensures leaves { Leaves who V.tells (V.image vault.old) hub.old cache.old hub.new }
+    ensures leaves { KeepsHubRight who V.tells (V.image vault.old) hub.old cache.old hub.new }
     ensures holds { Holds who V.tells (V.image vault.old) hub.old cache.old hub.new cache.new }
-    ensures vault { OnlyReads V.tells V.size V.image V.version V.room V.doubt V.images_now V.moment V.images_since V.faults V.leads_to vault.old vault.new }
+    ensures vault { OnlyReads V.tells V.size V.image V.version V.room V.doubt V.images_now V.moment
+        V.images_since V.faults V.leads_to vault.old vault.new }
 {
     let _mark: Option<Mark> = None;
-    if page.0 >= vault.pages() || word >= WORDS {
+    if page.0 >= vault.pages() || word >= Frame::WORDS {
         return Ok(Answer::Range);
     }
     read(alloc, hub, vault, who, cache, page, word)
@@ -73,16 +78,22 @@ fn write_within<V: Vault>(
     requires size { V.size vault.old ≡ page_count hub.old }
     requires sure { V.doubt vault.old ≡ None }
     requires sound { IsSound hub.old }
-    ensures makes { IfOk result (λ answer. Makes who (λ answer. within (is_in_range page word) (write_turn who page word value (outside_of answer))) hub.old cache.old answer hub.new cache.new) }
-    ensures failed { IfOk result (λ answer. answer ≡ said.Disk → Rose (V.faults vault.old) (V.faults vault.new)) }
+    ensures makes { IfOk result
+        (λ answer. RefinesTurnButValues who
+        (λ answer. within (is_in_range page word)
+        (write_turn who page word value
+        (outside_of answer))) hub.old cache.old answer hub.new cache.new) }
+    ensures failed { IfOk result (λ answer. answer ≡ said.Disk
+        → FaultCountRose (V.faults vault.old) (V.faults vault.new)) }
     ensures memory { OnErr result (OnlyLoads hub.old hub.new) }
     ensures cache_stays { OnErr result (cache.new ≡ cache.old) }
-    ensures leaves { Leaves who V.tells (V.image vault.old) hub.old cache.old hub.new }
+    ensures leaves { KeepsHubRight who V.tells (V.image vault.old) hub.old cache.old hub.new }
     ensures holds { Holds who V.tells (V.image vault.old) hub.old cache.old hub.new cache.new }
-    ensures vault { OnlyReads V.tells V.size V.image V.version V.room V.doubt V.images_now V.moment V.images_since V.faults V.leads_to vault.old vault.new }
+    ensures vault { OnlyReads V.tells V.size V.image V.version V.room V.doubt V.images_now V.moment
+        V.images_since V.faults V.leads_to vault.old vault.new }
 {
     let _mark: Option<Mark> = None;
-    if page.0 >= vault.pages() || word >= WORDS {
+    if page.0 >= vault.pages() || word >= Frame::WORDS {
         return Ok(Answer::Range);
     }
     write(alloc, hub, vault, who, cache, page, word, value)
@@ -102,13 +113,19 @@ fn acquire_within<V: Vault>(
     requires size { V.size vault.old ≡ page_count hub.old }
     requires sure { V.doubt vault.old ≡ None }
     requires sound { IsSound hub.old }
-    ensures makes { IfOk result (λ answer. Makes who (λ answer. within (are_in_range wants.now) (acquire_turn who wants.now (outside_of answer))) hub.old cache.old answer hub.new cache.new) }
-    ensures failed { IfOk result (λ answer. answer ≡ said.Disk → Rose (V.faults vault.old) (V.faults vault.new)) }
+    ensures makes { IfOk result
+        (λ answer. RefinesTurnButValues who
+        (λ answer. within (are_in_range wants.now)
+        (acquire_turn who wants.now
+        (outside_of answer))) hub.old cache.old answer hub.new cache.new) }
+    ensures failed { IfOk result (λ answer. answer ≡ said.Disk
+        → FaultCountRose (V.faults vault.old) (V.faults vault.new)) }
     ensures memory { OnErr result (OnlyLoads hub.old hub.new) }
     ensures cache_stays { OnErr result (cache.new ≡ cache.old) }
-    ensures leaves { Leaves who V.tells (V.image vault.old) hub.old cache.old hub.new }
+    ensures leaves { KeepsHubRight who V.tells (V.image vault.old) hub.old cache.old hub.new }
     ensures holds { Holds who V.tells (V.image vault.old) hub.old cache.old hub.new cache.new }
-    ensures vault { OnlyReads V.tells V.size V.image V.version V.room V.doubt V.images_now V.moment V.images_since V.faults V.leads_to vault.old vault.new }
+    ensures vault { OnlyReads V.tells V.size V.image V.version V.room V.doubt V.images_now V.moment
+        V.images_since V.faults V.leads_to vault.old vault.new }
 {
     let _mark: Option<Mark> = None;
     let pages = vault.pages();
@@ -138,14 +155,20 @@ pub(crate) fn act<V: Vault>(
     requires size { V.size vault.old ≡ page_count hub.old }
     requires sure { V.doubt vault.old ≡ None }
     requires sound { IsSound hub.old }
-    ensures makes { IfOk result (λ answer. Makes who (client_turn_with who event.now) hub.old cache.old answer hub.new cache.new) }
-    ensures does { IfOk result (λ answer. Does who V.tells (V.image vault.old) (client_turn who event.now) hub.old cache.old answer hub.new cache.new) }
-    ensures failed { IfOk result (λ answer. answer ≡ said.Disk → Rose (V.faults vault.old) (V.faults vault.new)) }
+    ensures makes { IfOk result
+        (λ answer. RefinesTurnButValues who
+        (client_turn_with who event.now) hub.old cache.old answer hub.new cache.new) }
+    ensures does { IfOk result
+        (λ answer. RefinesTurn who V.tells (V.image vault.old)
+        (client_turn who event.now) hub.old cache.old answer hub.new cache.new) }
+    ensures failed { IfOk result (λ answer. answer ≡ said.Disk
+        → FaultCountRose (V.faults vault.old) (V.faults vault.new)) }
     ensures memory { OnErr result (OnlyLoads hub.old hub.new) }
     ensures cache_stays { OnErr result (cache.new ≡ cache.old) }
-    ensures leaves { Leaves who V.tells (V.image vault.old) hub.old cache.old hub.new }
+    ensures leaves { KeepsHubRight who V.tells (V.image vault.old) hub.old cache.old hub.new }
     ensures holds { Holds who V.tells (V.image vault.old) hub.old cache.old hub.new cache.new }
-    ensures vault { OnlyReads V.tells V.size V.image V.version V.room V.doubt V.images_now V.moment V.images_since V.faults V.leads_to vault.old vault.new }
+    ensures vault { OnlyReads V.tells V.size V.image V.version V.room V.doubt V.images_now V.moment
+        V.images_since V.faults V.leads_to vault.old vault.new }
 {
     let _mark: Option<Mark> = None;
     match event {

@@ -8,7 +8,8 @@ use casper_words::Memory;
 
 /// The answer to a join that was refused, but for want of memory.
 pub(crate) fn answer_of_join(refusal: JoinRefusal) -> Result<Answer, Memory>
-    ensures answer { IfOk result (λ answer. (answer ≡ of_join (Some refusal)) × (refusal ≢ refused.Memory)) }
+    ensures answer { IfOk result (λ answer. (answer ≡ of_join (Some refusal))
+        × (refusal ≢ refused.Memory)) }
     ensures memory { OnErr result (refusal ≡ refused.Memory) }
 {
     match refusal {

@@ -1,14 +1,14 @@
 ghost use Rattle.std.specs.Prelude.{◌≡◌, ◌<◌, ℕ, None, IfOk, OnErr, [], ◌∷◌};
-ghost use Rattle.casper_words.specs.Count.{Rose};
+ghost use Rattle.casper_words.specs.Count.{FaultCountRose};
 ghost use Rattle.casper_words.specs.declared.page.Right.TheVariants as may;
 ghost use Rattle.casper_space.specs.declared.answer.Answer.TheVariants as said;
 ghost use Rattle.casper_model.specs.Step.{read_turn, write_turn};
 ghost use Rattle.casper_hub.specs.HubView.{page_count};
 ghost use Rattle.casper_hub.specs.Owned.{Owns};
 ghost use Rattle.casper_hub.specs.Sound.{IsSound};
-ghost use Rattle.casper_core.specs.Acting.{outside_of, Does, Leaves, Holds};
+ghost use Rattle.casper_core.specs.Acting.{outside_of, RefinesTurn, KeepsHubRight, Holds};
 ghost use Rattle.casper_core.specs.Loading.{OnlyReads, OnlyLoads};
-ghost use Rattle.casper_core.specs.Shaped.{Makes, read_with};
+ghost use Rattle.casper_core.specs.Shaped.{RefinesTurnButValues, read_with};
 
 use crate::acquire::acquire;
 use crate::answers::answer_of;
@@ -39,14 +39,20 @@ pub(crate) fn read<V: Vault>(
     requires size { V.size vault.old ≡ page_count hub.old }
     requires sure { V.doubt vault.old ≡ None }
     requires sound { IsSound hub.old }
-    ensures makes { IfOk result (λ answer. Makes who (read_with who page word) hub.old cache.old answer hub.new cache.new) }
-    ensures does { IfOk result (λ answer. Does who V.tells (V.image vault.old) (read_turn who page word) hub.old cache.old answer hub.new cache.new) }
-    ensures failed { IfOk result (λ answer. answer ≡ said.Disk → Rose (V.faults vault.old) (V.faults vault.new)) }
+    ensures makes { IfOk result
+        (λ answer. RefinesTurnButValues who
+        (read_with who page word) hub.old cache.old answer hub.new cache.new) }
+    ensures does { IfOk result
+        (λ answer. RefinesTurn who V.tells (V.image vault.old)
+        (read_turn who page word) hub.old cache.old answer hub.new cache.new) }
+    ensures failed { IfOk result (λ answer. answer ≡ said.Disk
+        → FaultCountRose (V.faults vault.old) (V.faults vault.new)) }
     ensures memory { OnErr result (OnlyLoads hub.old hub.new) }
     ensures cache_stays { OnErr result (cache.new ≡ cache.old) }
-    ensures leaves { Leaves who V.tells (V.image vault.old) hub.old cache.old hub.new }
+    ensures leaves { KeepsHubRight who V.tells (V.image vault.old) hub.old cache.old hub.new }
     ensures holds { Holds who V.tells (V.image vault.old) hub.old cache.old hub.new cache.new }
-    ensures vault { OnlyReads V.tells V.size V.image V.version V.room V.doubt V.images_now V.moment V.images_since V.faults V.leads_to vault.old vault.new }
+    ensures vault { OnlyReads V.tells V.size V.image V.version V.room V.doubt V.images_now V.moment
+        V.images_since V.faults V.leads_to vault.old vault.new }
 {
     let _mark: Option<Mark> = None;
     if let Some(value) = cache.hit_read(page, word) {
@@ -88,13 +94,18 @@ pub(crate) fn write<V: Vault>(
     requires size { V.size vault.old ≡ page_count hub.old }
     requires sure { V.doubt vault.old ≡ None }
     requires sound { IsSound hub.old }
-    ensures makes { IfOk result (λ answer. Makes who (λ answer. write_turn who page word value (outside_of answer)) hub.old cache.old answer hub.new cache.new) }
-    ensures failed { IfOk result (λ answer. answer ≡ said.Disk → Rose (V.faults vault.old) (V.faults vault.new)) }
+    ensures makes { IfOk result
+        (λ answer. RefinesTurnButValues who
+        (λ answer. write_turn who page word value
+        (outside_of answer)) hub.old cache.old answer hub.new cache.new) }
+    ensures failed { IfOk result (λ answer. answer ≡ said.Disk
+        → FaultCountRose (V.faults vault.old) (V.faults vault.new)) }
     ensures memory { OnErr result (OnlyLoads hub.old hub.new) }
     ensures cache_stays { OnErr result (cache.new ≡ cache.old) }
-    ensures leaves { Leaves who V.tells (V.image vault.old) hub.old cache.old hub.new }
+    ensures leaves { KeepsHubRight who V.tells (V.image vault.old) hub.old cache.old hub.new }
     ensures holds { Holds who V.tells (V.image vault.old) hub.old cache.old hub.new cache.new }
-    ensures vault { OnlyReads V.tells V.size V.image V.version V.room V.doubt V.images_now V.moment V.images_since V.faults V.leads_to vault.old vault.new }
+    ensures vault { OnlyReads V.tells V.size V.image V.version V.room V.doubt V.images_now V.moment
+        V.images_since V.faults V.leads_to vault.old vault.new }
 {
     let _mark: Option<Mark> = None;
     if cache.hit_write(page, word, value) {

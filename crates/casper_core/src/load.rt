@@ -1,5 +1,5 @@
 ghost use Rattle.std.specs.Prelude.{◌≡◌, ◌<◌, ℕ, List, true, false, None, IfOk, IsSome, IsTrue};
-ghost use Rattle.casper_words.specs.Count.{Rose};
+ghost use Rattle.casper_words.specs.Count.{FaultCountRose};
 ghost use Rattle.casper_trail.specs.TrailView.{commit_count};
 ghost use Rattle.casper_hub.specs.HubView.{frame_in, page_count};
 ghost use Rattle.casper_hub.specs.Sound.{IsSound};
@@ -24,11 +24,15 @@ pub(crate) fn load<V: Vault>(
     requires marks { marks ≡ commit_count hub.old.trail }
     requires size { V.size vault.old ≡ page_count hub.old }
     ensures loaded { IfOk result (λ read. read ≡ true → IsSome (frame_in hub.new.pages page)) }
-    ensures failed { IfOk result (λ read. read ≡ false → Rose (V.faults vault.old) (V.faults vault.new)) }
+    ensures failed { IfOk result (λ read. read ≡ false
+        → FaultCountRose (V.faults vault.old) (V.faults vault.new)) }
     ensures hub { OnlyLoads hub.old hub.new }
-    ensures frames { IsTrue V.tells → (base : List (List ℕ)) → AreStored base hub.old (V.image vault.old) → FramesAreRight base hub.old → FramesAreRight base hub.new }
+    ensures frames { IsTrue V.tells → (base : List (List ℕ))
+        → AreStored base hub.old (V.image vault.old) → FramesAreRight base hub.old
+        → FramesAreRight base hub.new }
     ensures sound { IsSound hub.old → IsSound hub.new }
-    ensures vault { OnlyReads V.tells V.size V.image V.version V.room V.doubt V.images_now V.moment V.images_since V.faults V.leads_to vault.old vault.new }
+    ensures vault { OnlyReads V.tells V.size V.image V.version V.room V.doubt V.images_now V.moment
+        V.images_since V.faults V.leads_to vault.old vault.new }
 {
     let mut frame = Frame::zero(alloc)?;
     if vault.read_page(page, &mut frame).is_err() {

@@ -4,7 +4,7 @@ ghost use Rattle.casper_model.specs.State.{State};
 ghost use Rattle.casper_core.specs.Loading.{OnlyReads};
 ghost use Rattle.casper_core.specs.Shaped.{RunsInShape};
 ghost use Rattle.casper_core.specs.Sound.{IsSound};
-ghost use Rattle.casper_core.specs.Stands.{Stands};
+ghost use Rattle.casper_core.specs.Represents.{Represents};
 ghost use Rattle.casper_core.specs.Stepping.{AreBuilt, Runs, HasLegalTrail, RoseBy, completed_in, failures_in};
 ghost use Rattle.casper_core.specs.UnheldPages.{UnheldPagesAreRight};
 
@@ -19,15 +19,19 @@ impl<V: Vault> Core<V> {
     /// state are those of the steps that were made.
     pub fn replay(&mut self, events: &[Event], answers: &mut Answers) -> Result<(), StepFault>
         requires built { AreBuilt events.now }
-        ensures run { (said : List AnAnswer) × (answers.new.items ≡ answers.old.items ++ said) × (length said ≤ length events.now)
-            × OnOk result (length said ≡ length events.now) × (IsTrue V.tells → Runs events.now said self.old self.new)
+        ensures run { (said : List AnAnswer) × (answers.new.items ≡ answers.old.items ++ said)
+            × (length said ≤ length events.now)
+            × OnOk result (length said ≡ length events.now)
+            × (IsTrue V.tells → Runs events.now said self.old self.new)
             × RunsInShape events.now said self.old self.new
             × RoseBy (failures_in said) (V.faults self.old.vault) (V.faults self.new.vault)
             × (self.new.calls ≡ min (self.old.calls + completed_in events.now said) (2 ^ 64 - 1)) }
         ensures never_falls { V.faults self.old.vault ≤ V.faults self.new.vault }
-        ensures legal { (state : State) → Stands state self.new → HasLegalTrail state self.new }
-        ensures unheld { (state : State) → Stands state self.new → UnheldPagesAreRight state self.new }
-        ensures vault { OnlyReads V.tells V.size V.image V.version V.room V.doubt V.images_now V.moment V.images_since V.faults V.leads_to self.old.vault self.new.vault }
+        ensures legal { (state : State) → Represents state self.new → HasLegalTrail state self.new }
+        ensures unheld { (state : State) → Represents state self.new
+            → UnheldPagesAreRight state self.new }
+        ensures vault { OnlyReads V.tells V.size V.image V.version V.room V.doubt V.images_now
+            V.moment V.images_since V.faults V.leads_to self.old.vault self.new.vault }
         ensures sound { IsSound self.new }
     {
         let _mark: Option<Mark> = None;

@@ -1,20 +1,17 @@
 ghost use Rattle.std.specs.Prelude.{◌≡◌, ◌≤◌, [], replicate, None, IsTrue, IfOk, IfErr};
 ghost use Rattle.casper_model.specs.State.{State, start};
-ghost use Rattle.casper_core.specs.Shaped.{HasShapeOf};
+ghost use Rattle.casper_core.specs.Shaped.{RepresentsButWords};
 ghost use Rattle.casper_core.specs.Sound.{IsSound};
-ghost use Rattle.casper_core.specs.Stands.{Stands};
+ghost use Rattle.casper_core.specs.Represents.{Represents};
 ghost use Rattle.casper_core.specs.CoreView.{told_by};
 
 use casper_cache::Cache;
 use casper_disk::Vault;
 use casper_hub::Hub;
 use casper_trail::Mark;
-use casper_words::Memory;
+use casper_words::{Memory, Who};
 use std::alloc::Global;
 use std::marker::Model;
-
-/// How many places there are for caches: one for each number up to 32, the place 0 unused.
-const PLACES: usize = 33;
 
 /// What answers events one after another: the hub, a cache for each live client, and the vault. Contracts see these three, and what
 /// the vault tells of its image.
@@ -60,8 +57,8 @@ impl<V: Vault> Model for Core<V> {
 fn no_caches(alloc: Global) -> Result<Vec<Option<Cache>>, Memory>
     ensures { IfOk result (λ caches. caches.items ≡ replicate 33 None) }
 {
-    let mut caches = Vec::with_capacity(alloc, PLACES)?;
-    for _ in 0..PLACES {
+    let mut caches = Vec::with_capacity(alloc, Who::PLACES)?;
+    for _ in 0..Who::PLACES {
         caches.push(None)?;
     }
     Ok(caches)
@@ -76,10 +73,13 @@ impl<V: Vault> Core<V> {
         requires limit { limit ≤ 4194304 }
         requires least { 8 ≤ capacity }
         requires most { capacity ≤ 1024 }
-        ensures stands { IsTrue V.tells → IfOk result (λ core. Stands (start core.told core.size limit capacity) core) }
-        ensures shape { IfOk result (λ core. HasShapeOf (start core.told core.size limit capacity) core) }
+        ensures stands { IsTrue V.tells
+            → IfOk result (λ core. Represents (start core.told core.size limit capacity) core) }
+        ensures shape { IfOk result
+            (λ core. RepresentsButWords (start core.told core.size limit capacity) core) }
         ensures vault { IfOk result (λ core. core.vault ≡ vault) }
-        ensures told { IfOk result (λ core. core.told ≡ told_by V.image V.version V.room V.doubt vault) }
+        ensures told { IfOk result (λ core. core.told
+            ≡ told_by V.image V.version V.room V.doubt vault) }
         ensures size { IfOk result (λ core. core.size ≡ V.size vault) }
         ensures trail { IfOk result (λ core. core.hub.trail ≡ []) }
         ensures calls { IfOk result (λ core. core.calls ≡ 0) }
@@ -109,7 +109,7 @@ impl<V: Vault> Core<V> {
     /// The hub.
     pub fn hub(&self) -> &Hub
         ensures hub { result.now ≡ self.now.hub }
-        ensures shape { (state : State) × HasShapeOf state self.now }
+        ensures shape { (state : State) × RepresentsButWords state self.now }
         ensures sound { IsSound self.now }
     {
         &self.hub

@@ -1,5 +1,5 @@
 ghost use Rattle.std.specs.Prelude.{◌≡◌, IsTrue, IfOk, OnErr, ◌≤◌};
-ghost use Rattle.casper_words.specs.Count.{Rose};
+ghost use Rattle.casper_words.specs.Count.{FaultCountRose};
 ghost use Rattle.casper_space.specs.declared.answer.Answer.TheVariants as said;
 ghost use Rattle.casper_model.specs.Growth.{StepAdds};
 ghost use Rattle.casper_model.specs.State.{State};
@@ -7,7 +7,7 @@ ghost use Rattle.casper_core.specs.Decided.{AnswersByTheHub};
 ghost use Rattle.casper_core.specs.Loading.{OnlyReads};
 ghost use Rattle.casper_core.specs.Shaped.{StepsInShape};
 ghost use Rattle.casper_core.specs.Sound.{IsSound};
-ghost use Rattle.casper_core.specs.Stands.{Stands};
+ghost use Rattle.casper_core.specs.Represents.{Represents};
 ghost use Rattle.casper_core.specs.Stepping.{IsBuilt, Steps, IsUnchanged, completes, counted, HasLegalTrail};
 ghost use Rattle.casper_core.specs.UnheldPages.{UnheldPagesAreRight};
 ghost use Rattle.casper_disk.specs.Disk.{Took};
@@ -47,13 +47,18 @@ impl<V: Vault> Core<V> {
     /// Answers an event, whose calls are not counted yet.
     fn carry_out(&mut self, event: &Event) -> Result<Answer, Memory>
         requires built { IsBuilt event.now }
-        ensures step { IsTrue V.tells → IfOk result (λ answer. Steps event.now answer self.old self.new) }
+        ensures step { IsTrue V.tells
+            → IfOk result (λ answer. Steps event.now answer self.old self.new) }
         ensures shape { IfOk result (λ answer. StepsInShape event.now answer self.old self.new) }
-        ensures failed { IfOk result (λ answer. answer ≡ said.Disk → Rose (V.faults self.old.vault) (V.faults self.new.vault)) }
+        ensures failed { IfOk result (λ answer. answer ≡ said.Disk
+            → FaultCountRose (V.faults self.old.vault) (V.faults self.new.vault)) }
         ensures memory { OnErr result (IsUnchanged self.old self.new) }
-        ensures stands { IsTrue V.tells → OnErr result ((state : State) → Stands state self.old → Stands state self.new) }
+        ensures stands { IsTrue V.tells
+            → OnErr result ((state : State) → Represents state self.old
+            → Represents state self.new) }
         ensures calls { self.new.calls ≡ self.old.calls }
-        ensures vault { OnlyReads V.tells V.size V.image V.version V.room V.doubt V.images_now V.moment V.images_since V.faults V.leads_to self.old.vault self.new.vault }
+        ensures vault { OnlyReads V.tells V.size V.image V.version V.room V.doubt V.images_now
+            V.moment V.images_since V.faults V.leads_to self.old.vault self.new.vault }
         ensures sound { IsSound self.new }
     {
         let _mark: Option<Mark> = None;
@@ -71,20 +76,30 @@ impl<V: Vault> Core<V> {
     /// Answers one event. After Memory nothing of the state has changed, but the server may have got frames of pages of the image.
     pub fn step(&mut self, event: &Event) -> Result<Answer, StepFault>
         requires built { IsBuilt event.now }
-        ensures step { IsTrue V.tells → IfOk result (λ answer. Steps event.now answer self.old self.new) }
+        ensures step { IsTrue V.tells
+            → IfOk result (λ answer. Steps event.now answer self.old self.new) }
         ensures shape { IfOk result (λ answer. StepsInShape event.now answer self.old self.new) }
         ensures decided { IfOk result (λ answer. AnswersByTheHub self.old.hub event.now answer) }
-        ensures fault { IfOk result (λ answer. answer ≡ said.Disk → Rose (V.faults self.old.vault) (V.faults self.new.vault)) }
+        ensures fault { IfOk result (λ answer. answer ≡ said.Disk
+            → FaultCountRose (V.faults self.old.vault) (V.faults self.new.vault)) }
         ensures never_falls { V.faults self.old.vault ≤ V.faults self.new.vault }
         ensures memory { OnErr result (IsUnchanged self.old self.new) }
-        ensures stands { IsTrue V.tells → OnErr result ((state : State) → Stands state self.old → Stands state self.new) }
-        ensures calls { IfOk result (λ answer. self.new.calls ≡ counted (completes event.now answer) self.old.calls) }
-        ensures adds { IsTrue V.tells → IfOk result (λ answer. (state : State) → Stands state self.old → StepAdds state event.now self.new.hub.trail) }
-        ensures legal { (state : State) → Stands state self.new → HasLegalTrail state self.new }
-        ensures unheld { (state : State) → Stands state self.new → UnheldPagesAreRight state self.new }
+        ensures stands { IsTrue V.tells
+            → OnErr result ((state : State) → Represents state self.old
+            → Represents state self.new) }
+        ensures calls { IfOk result (λ answer. self.new.calls
+            ≡ counted (completes event.now answer) self.old.calls) }
+        ensures adds { IsTrue V.tells
+            → IfOk result (λ answer. (state : State) → Represents state self.old
+            → StepAdds state event.now self.new.hub.trail) }
+        ensures legal { (state : State) → Represents state self.new → HasLegalTrail state self.new }
+        ensures unheld { (state : State) → Represents state self.new
+            → UnheldPagesAreRight state self.new }
         ensures images { IsTrue V.tells →
-            Took (V.moment self.old.vault) (V.moment self.new.vault) (V.images_since self.old.vault) (V.images_since self.new.vault) (V.images_now self.old.vault) }
-        ensures vault { OnlyReads V.tells V.size V.image V.version V.room V.doubt V.images_now V.moment V.images_since V.faults V.leads_to self.old.vault self.new.vault }
+            Took (V.moment self.old.vault) (V.moment self.new.vault) (V.images_since self.old.vault)
+            (V.images_since self.new.vault) (V.images_now self.old.vault) }
+        ensures vault { OnlyReads V.tells V.size V.image V.version V.room V.doubt V.images_now
+            V.moment V.images_since V.faults V.leads_to self.old.vault self.new.vault }
         ensures sound { IsSound self.new }
     {
         let _mark: Option<Mark> = None;

@@ -1,7 +1,9 @@
-use Rattle.std.proofs.Common.{◌≡◌, ℕ, ◌+◌, List, [], Bool, true, false, cond, length, refl, sym, ap, ap₂, ◌∙◌, subst}
+use Rattle.std.proofs.Common.{◌≡◌, ℕ, ◌+◌, List, [], ◌++◌, Bool, true, false, cond, length, refl, sym, ap, ap₂, ◌∙◌, subst}
 use Rattle.std.specs.Prelude.{Option, None, Some, nat_lt}
 use Rattle.std.specs.Option.{option_or}
 use Rattle.casper_words.specs.declared.page.Want.{Want}
+use Rattle.casper_trail.specs.Parts.{as_items}
+use Rattle.casper_trail.specs.Calls.{entries_by}
 use Rattle.casper_trail.specs.TrailView.{entry_count, commit_count}
 use Rattle.casper_cache.specs.Own as cache
 use Rattle.casper_model.specs.declared.reply.Reply.{Reply}
@@ -10,21 +12,21 @@ use Rattle.casper_model.specs.Held.{missing_of}
 use Rattle.casper_model.specs.Stabilisation.{is_empty}
 use Rattle.casper_model.specs.Shared.{Shared}
 use Rattle.casper_model.specs.Own.{Own}
-use Rattle.casper_model.specs.Both.{Both, Turned}
+use Rattle.casper_model.specs.Both.{Both, Turned, turned}
 use Rattle.casper_model.specs.Opening.{opened, given_in_opening}
 use Rattle.casper_model.specs.Acquire.{acquire, acquired_by, answered, with_asks, is_pending, refused_missing, refused_full, blocked_of}
+use Rattle.casper_model.proofs.Additions.{trail_opened}
 use Rattle.casper_hub.specs.declared.decide.Decision.TheVariants as decision
 use Rattle.casper_hub.specs.HubView.{HubView, free_in}
 use Rattle.casper_hub.specs.Shows.{Shows}
-use Rattle.casper_hub.specs.Sound.{IsSound}
-use Rattle.casper_hub.specs.Owned.{own_of, Owns}
+use Rattle.casper_hub.specs.Owned.{own_of}
 use Rattle.casper_hub.specs.Given.{topped}
 use Rattle.casper_hub.specs.Deciding.{missing_in, blockers_in, blocked_in, unframed_in, granted_or_load, decision_for}
 use Rattle.casper_hub.specs.Stages.{Refuses}
-use Rattle.casper_hub.specs.Turns.{IsLoad, Acquires, first_unframed}
-use Rattle.casper_hub.proofs.Showing.{fallen_shown}
+use Rattle.casper_hub.specs.Turns.{IsTurn, IsLoad, IsRefused, first_unframed}
+use Rattle.casper_hub.proofs.Whole.{Whole, Owning, fallen_shown}
 use Rattle.casper_hub.proofs.OpenedTurns.{own_opened}
-use Rattle.casper_hub.proofs.ServedTurns.{opened_shows, own_after_opening, stabilisations_opened}
+use Rattle.casper_hub.proofs.ServedTurns.{own_after_opening, stabilisations_opened}
 use Rattle.casper_hub.proofs.DepartedTurns.{client_of_opening, refused_shows}
 use Rattle.casper_hub.proofs.Blocking.{missing_same, blockers_same, blocked_same, refused_as_pending}
 
@@ -39,7 +41,7 @@ refusal_for hub own wants calls entries =
     (cond (nat_lt (topped own (free_in hub)) (length missing + calls)) (Some (TrailFull entries)) None)
 
 -- the machine refuses for the same
-refusal_same : (shared : Shared) (hub : HubView) (own : cache.Own) (wants : List Want) (calls : ℕ) → Shows shared hub → IsSound hub → Owns hub own
+refusal_same : (shared : Shared) (hub : HubView) (own : cache.Own) (wants : List Want) (calls : ℕ) → Shows shared hub → Whole hub → Owning hub own
     → option_or (refused_missing (opened shared (own_of own)).shared (opened shared (own_of own)).own.who (given_in_opening shared (own_of own)) (missing_of (opened shared (own_of own)).own.held wants))
     (refused_full (opened shared (own_of own)) (missing_of (opened shared (own_of own)).own.held wants) calls)
     ≡ refusal_for hub own wants calls (entry_count (opened shared (own_of own)).shared.trail)
@@ -64,7 +66,7 @@ refusal_same shared hub own wants calls shows sound owns =
     none = stabilisations_opened shared (own_of own) (shows.stabilisations ∙ sound.quiet) ∙ shows.stabilisations ∙ sound.quiet
 
 -- so an acquire of the machine is answered by this refusal
-pub acquire_answered : (shared : Shared) (hub : HubView) (own : cache.Own) (wants : List Want) (calls : ℕ) → Shows shared hub → IsSound hub → Owns hub own
+pub acquire_answered : (shared : Shared) (hub : HubView) (own : cache.Own) (wants : List Want) (calls : ℕ) → Shows shared hub → Whole hub → Owning hub own
     → acquire shared (own_of own) wants calls
     ≡ answered (opened shared (own_of own)) (given_in_opening shared (own_of own)) wants (missing_in hub.pages hub.clients own.client wants)
     (refusal_for hub own wants calls (entry_count (opened shared (own_of own)).shared.trail))
@@ -116,29 +118,21 @@ refusal_when hub own wants calls entries empty full is short =
     ap₂ (λ a b. option_or (cond a None (Some (Pending (blockers_in hub.pages hub.clients own.client (missing_in hub.pages hub.clients own.client wants))))) (cond b (Some (TrailFull entries)) None))
     is short
 
--- an acquire that the machine refuses
-refused_acquire : (shared : Shared) (hub : HubView) (own : cache.Own) (wants : List Want) (calls : ℕ) (reply : Reply) (asks : List Want) (after : HubView) (own_after : cache.Own)
-    → Shows shared hub → IsSound hub → Owns hub own → (refuses : Refuses own.client asks hub own after own_after) → IsSound refuses.opened
+-- an acquire that the machine refuses leaves these asks
+refused_so : (shared : Shared) (hub : HubView) (own : cache.Own) (wants : List Want) (calls : ℕ) (reply : Reply) (asks : List Want) → Shows shared hub → Whole hub → Owning hub own
     → refusal_for hub own wants calls (entry_count (opened shared (own_of own)).shared.trail) ≡ Some reply
     → asks ≡ cond (is_pending reply) (blocked_in hub.pages hub.clients own.client (missing_in hub.pages hub.clients own.client wants)) []
-    → (reply ≡ (acquire shared (own_of own) wants calls).reply) × Shows (acquire shared (own_of own) wants calls).shared after × (own_of own_after ≡ (acquire shared (own_of own) wants calls).own)
-refused_acquire shared hub own wants calls reply asks after own_after shows sound owns refuses sound_opened refused asks_are = (
-  sym (ap (λ (t : Turned Reply). t.reply) turn),
-  subst (λ (t : Turned Reply). Shows t.shared after) (sym turn)
-      (subst (λ list. Shows (with_asks list both).shared after) asks_same (refused_shows shared hub own asks after own_after shows sound owns refuses sound_opened)),
-  own_after_opening hub own refuses.opened own_after sound owns refuses.opens ∙ sym (own_opened shared hub own shows sound owns) ∙ sym (ap (λ (t : Turned Reply). t.own) turn),
-)
+    → acquire shared (own_of own) wants calls ≡ turned reply (with_asks asks (opened shared (own_of own)))
+refused_so shared hub own wants calls reply asks shows sound owns refused asks_are =
+    acquire_answered shared hub own wants calls shows sound owns
+    ∙ ap (answered both (given_in_opening shared (own_of own)) wants missing) refused
+    ∙ ap (λ list. turned reply (with_asks list both)) (sym asks_same)
   where
     both : Both
     both = opened shared (own_of own)
 
     missing : List Want
     missing = missing_in hub.pages hub.clients own.client wants
-
-    turn : acquire shared (own_of own) wants calls ≡ answered both (given_in_opening shared (own_of own)) wants missing (Some reply)
-    turn =
-        acquire_answered shared hub own wants calls shows sound owns
-        ∙ ap (answered both (given_in_opening shared (own_of own)) wants missing) refused
 
     asks_same : asks ≡ cond (is_pending reply) (blocked_of both.shared both.own.who (given_in_opening shared (own_of own)) missing) []
     asks_same =
@@ -147,15 +141,29 @@ refused_acquire shared hub own wants calls reply asks after own_after shows soun
         (sym (ap (λ who. blocked_of both.shared who (given_in_opening shared (own_of own)) missing) (client_of_opening shared hub own shows sound owns)
         ∙ blocked_same shared hub own missing shows sound owns))
 
--- an acquire that the hub leaves pending is one that the machine does
-pub pending_turn : (hub : HubView) (own : cache.Own) (wants blocked : List Want) (blockers : List ℕ) (calls : ℕ) (after : HubView) (own_after : cache.Own) → IsSound hub → Owns hub own
-    → decision.Pending blockers blocked ≡ decision_for hub.pages hub.clients own.client wants calls (topped own (free_in hub))
-    → (refuses : Refuses own.client blocked hub own after own_after) → IsSound refuses.opened → Acquires hub own wants calls (Pending blockers) after own_after
-pending_turn hub own wants blocked blockers calls after own_after sound owns made refuses sound_opened = record {
-  replies = λ shared shows. (turn shared shows).0;
-  shows = λ shared shows. (turn shared shows).1;
-  owns = λ shared shows. (turn shared shows).2;
+-- so it is one that the hub refuses
+pub refused_turn : (hub : HubView) (own : cache.Own) (wants : List Want) (calls : ℕ) (reply : Reply) (asks : List Want) (after : HubView) (own_after : cache.Own)
+    → Whole hub → Owning hub own → (refuses : Refuses own.client asks hub own after own_after) → Whole refuses.opened → IsRefused hub own wants calls reply asks
+    → IsTurn (λ shared own. acquire shared own wants calls) reply hub own after own_after
+refused_turn hub own wants calls reply asks after own_after sound owns refuses sound_opened refused = record {
+  replies = λ shared shows. sym (ap (λ (t : Turned Reply). t.reply) (refused shared shows));
+  shows = λ shared shows.
+      subst (λ (t : Turned Reply). Shows t.shared after) (sym (refused shared shows))
+      (refused_shows shared hub own asks after own_after shows sound owns refuses sound_opened);
+  owns = λ shared shows.
+      own_after_opening hub own refuses.opened own_after sound owns refuses.opens ∙ sym (own_opened shared hub own shows sound owns)
+      ∙ sym (ap (λ (t : Turned Reply). t.own) (refused shared shows));
 }
+
+-- an acquire that the hub leaves pending the machine refuses
+pub pending_refused : (hub : HubView) (own : cache.Own) (wants blocked : List Want) (blockers : List ℕ) (calls : ℕ) → Whole hub → Owning hub own
+    → decision.Pending blockers blocked ≡ decision_for hub.pages hub.clients own.client wants calls (topped own (free_in hub))
+    → IsRefused hub own wants calls (Pending blockers) blocked
+pending_refused hub own wants blocked blockers calls sound owns made shared shows =
+    refused_so shared hub own wants calls (Pending blockers) blocked shows sound owns
+    (refusal_when hub own wants calls (entry_count (opened shared (own_of own)).shared.trail) false (nat_lt (topped own (free_in hub)) (length missing + calls)) told.0 refl
+    ∙ ap (λ list. Some (Pending list)) (sym told.1))
+    told.2
   where
     missing : List Want
     missing = missing_in hub.pages hub.clients own.client wants
@@ -166,24 +174,16 @@ pending_turn hub own wants blocked blockers calls after own_after sound owns mad
         decided_pending_is (is_empty (blockers_in hub.pages hub.clients own.client missing)) (nat_lt (topped own (free_in hub)) (length missing + calls)) missing
         (blocked_in hub.pages hub.clients own.client missing) blocked (blockers_in hub.pages hub.clients own.client missing) blockers (unframed_in hub.pages missing) made
 
-    turn : (shared : Shared) → Shows shared hub
-        → (Pending blockers ≡ (acquire shared (own_of own) wants calls).reply) × Shows (acquire shared (own_of own) wants calls).shared after
-        × (own_of own_after ≡ (acquire shared (own_of own) wants calls).own)
-    turn shared shows =
-        refused_acquire shared hub own wants calls (Pending blockers) blocked after own_after shows sound owns refuses sound_opened
-        (refusal_when hub own wants calls (entry_count (opened shared (own_of own)).shared.trail) false (nat_lt (topped own (free_in hub)) (length missing + calls)) told.0 refl
-        ∙ ap (λ list. Some (Pending list)) (sym told.1))
-        told.2
-
--- an acquire for which the hub has too little room is one for which the machine has
-pub full_turn : (hub : HubView) (own : cache.Own) (wants : List Want) (calls : ℕ) (after : HubView) (own_after : cache.Own) → IsSound hub → Owns hub own
+-- an acquire for which the hub has too little room the machine refuses
+pub full_refused : (hub : HubView) (own : cache.Own) (wants : List Want) (calls : ℕ) → Whole hub → Owning hub own
     → decision.Full ≡ decision_for hub.pages hub.clients own.client wants calls (topped own (free_in hub))
-    → (refuses : Refuses own.client [] hub own after own_after) → IsSound refuses.opened → Acquires hub own wants calls (TrailFull (entry_count after.trail)) after own_after
-full_turn hub own wants calls after own_after sound owns made refuses sound_opened = record {
-  replies = λ shared shows. (turn shared shows).0;
-  shows = λ shared shows. (turn shared shows).1;
-  owns = λ shared shows. (turn shared shows).2;
-}
+    → IsRefused hub own wants calls (TrailFull (entry_count (hub.trail ++ as_items (entries_by own.client own.pending)))) []
+full_refused hub own wants calls sound owns made shared shows =
+    let entries : entry_count (opened shared (own_of own)).shared.trail ≡ entry_count (hub.trail ++ as_items (entries_by own.client own.pending)) =
+    ap entry_count (trail_opened shared (own_of own) ∙ ap (λ trail. trail ++ as_items (entries_by own.client own.pending)) shows.trail) in
+    refused_so shared hub own wants calls (TrailFull (entry_count (hub.trail ++ as_items (entries_by own.client own.pending)))) [] shows sound owns
+    (refusal_when hub own wants calls (entry_count (opened shared (own_of own)).shared.trail) true true told.0 told.1 ∙ ap (λ n. Some (TrailFull n)) entries)
+    refl
   where
     missing : List Want
     missing = missing_in hub.pages hub.clients own.client wants
@@ -193,19 +193,8 @@ full_turn hub own wants calls after own_after sound owns made refuses sound_open
         decided_full_is (is_empty (blockers_in hub.pages hub.clients own.client missing)) (nat_lt (topped own (free_in hub)) (length missing + calls)) missing
         (blocked_in hub.pages hub.clients own.client missing) (blockers_in hub.pages hub.clients own.client missing) (unframed_in hub.pages missing) made
 
-    turn : (shared : Shared) → Shows shared hub
-        → (TrailFull (entry_count after.trail) ≡ (acquire shared (own_of own) wants calls).reply) × Shows (acquire shared (own_of own) wants calls).shared after
-        × (own_of own_after ≡ (acquire shared (own_of own) wants calls).own)
-    turn shared shows =
-        let entries : entry_count (opened shared (own_of own)).shared.trail ≡ entry_count after.trail =
-        ap entry_count (opened_shows shared hub own own.held refuses.opened own_after shows sound owns refuses.opens).trail
-        ∙ sym (ap (λ (h : HubView). entry_count h.trail) refuses.hub_is) in
-        refused_acquire shared hub own wants calls (TrailFull (entry_count after.trail)) [] after own_after shows sound owns refuses sound_opened
-        (refusal_when hub own wants calls (entry_count (opened shared (own_of own)).shared.trail) true true told.0 told.1 ∙ ap (λ n. Some (TrailFull n)) entries)
-        refl
-
 -- the machine grants what nobody stands in the way of and for which there is room
-pub granted_answer : (shared : Shared) (hub : HubView) (own : cache.Own) (wants : List Want) (calls : ℕ) → Shows shared hub → IsSound hub → Owns hub own
+pub granted_answer : (shared : Shared) (hub : HubView) (own : cache.Own) (wants : List Want) (calls : ℕ) → Shows shared hub → Whole hub → Owning hub own
     → is_empty (blockers_in hub.pages hub.clients own.client (missing_in hub.pages hub.clients own.client wants)) ≡ true
     → nat_lt (topped own (free_in hub)) (length (missing_in hub.pages hub.clients own.client wants) + calls) ≡ false
     → acquire shared (own_of own) wants calls
@@ -216,7 +205,7 @@ granted_answer shared hub own wants calls shows sound owns empty short =
     (refusal_when hub own wants calls (entry_count (opened shared (own_of own)).shared.trail) true false empty short)
 
 -- a page has to be read first where the machine would grant the acquire
-pub load_turn : (hub : HubView) (own : cache.Own) (wants : List Want) (calls page marks : ℕ) → IsSound hub → Owns hub own
+pub load_turn : (hub : HubView) (own : cache.Own) (wants : List Want) (calls page marks : ℕ) → Whole hub → Owning hub own
     → decision.Load page ≡ decision_for hub.pages hub.clients own.client wants calls (topped own (free_in hub)) → marks ≡ commit_count hub.trail
     → IsLoad hub own wants calls page marks hub own
 load_turn hub own wants calls page marks sound owns made counted = record {

@@ -24,12 +24,11 @@ use Rattle.casper_model.proofs.OpeningRights.{others_opened}
 use Rattle.casper_hub.specs.HubView.{HubView, asks_of, client_in, right_in}
 use Rattle.casper_hub.specs.Asks.{is_asked_for, are_for}
 use Rattle.casper_hub.specs.Shows.{permits, Shows}
-use Rattle.casper_hub.specs.Sound.{IsSound}
-use Rattle.casper_hub.specs.Owned.{wants_of, own_of, Owns}
+use Rattle.casper_hub.specs.Owned.{wants_of, own_of}
 use Rattle.casper_hub.specs.Given.{right_kept}
 use Rattle.casper_hub.specs.Deciding.{is_given, is_missing, missing_in, stands_in_the_way, blockers_in, blocked_in}
-use Rattle.casper_hub.proofs.Showing.{allows_right, rights_shown, asks_shown}
-use Rattle.casper_hub.proofs.Standing.{nobody_fell}
+use Rattle.casper_hub.proofs.Whole.{Whole, Owning, nobody_fell}
+use Rattle.casper_hub.proofs.Showing.{allows_right, asks_shown}
 use Rattle.casper_hub.proofs.KeptPages.{any_same, filter_same, asked_same, is_given_up}
 use Rattle.casper_hub.proofs.OpenedTurns.{kept_held, right_kept_held, distinct_kept_held, own_opened, asks_begun, have_rights_held}
 
@@ -72,7 +71,7 @@ other_alone who other one two same =
 -- What follows speaks of one acquire: of the machine's shared part and of the hub that stands for it, of the cache, and of the wants.
 
 -- the wants that the machine finds missing are those that the hub does
-pub missing_same : (shared : Shared) (hub : HubView) (own : cache.Own) (wants : List Want) → Shows shared hub → IsSound hub → Owns hub own
+pub missing_same : (shared : Shared) (hub : HubView) (own : cache.Own) (wants : List Want) → Shows shared hub → Whole hub → Owning hub own
     → missing_of (opened shared (own_of own)).own.held wants ≡ missing_in hub.pages hub.clients own.client wants
 missing_same shared hub own wants shows sound owns =
     ap (λ (o : Own). missing_of o.held wants) (own_opened shared hub own shows sound owns)
@@ -81,7 +80,7 @@ missing_same shared hub own wants shows sound owns =
     ∙ ap (λ right. permits right want.right) (right_kept_held hub own sound owns want.page))) wants
 
 -- the pages that the machine gives up are those that the hub does
-given_same : (shared : Shared) (hub : HubView) (own : cache.Own) → Shows shared hub → IsSound hub → Owns hub own → (page : ℕ)
+given_same : (shared : Shared) (hub : HubView) (own : cache.Own) → Shows shared hub → Whole hub → Owning hub own → (page : ℕ)
     → has_member page (given_in_opening shared (own_of own)) ≡ is_given hub.pages hub.clients own.client page
 given_same shared hub own shows sound owns page =
     ap (λ wants. has_member page (map (λ (want : Want). want.page) wants))
@@ -99,7 +98,7 @@ given_same shared hub own shows sound owns page =
         (λ other. asks_begun shared (own_of own) other ∙ asks_shown shared hub shows other)
 
 -- who stands in the way of a want for the machine, does so for the hub
-blocks_same : (shared : Shared) (hub : HubView) (own : cache.Own) → Shows shared hub → IsSound hub → Owns hub own → (want : Want) (other : ℕ)
+blocks_same : (shared : Shared) (hub : HubView) (own : cache.Own) → Shows shared hub → Whole hub → Owning hub own → (want : Want) (other : ℕ)
     → blocks (opened shared (own_of own)).shared own.client (given_in_opening shared (own_of own)) want other ≡ stands_in_the_way hub.pages hub.clients own.client want other
 blocks_same shared hub own shows sound owns want other =
     ap₂ (λ a b. a || b)
@@ -109,7 +108,7 @@ blocks_same shared hub own shows sound owns want other =
     (λ apart.
     ap (λ place. list_any (λ held. is_of want.page held && (is_to_write want.right || is_to_write held.right)) (of_client [] (λ client. client.rights) place))
     (others_opened shared (own_of own) other apart)
-    ∙ conflict_permitted (rights_at shared other) want.page want.right (right_in hub other want.page) (rights_shown shared hub shows sound other want.page)))
+    ∙ conflict_permitted (rights_at shared other) want.page want.right (right_in hub other want.page) (shows.rights other want.page)))
     (ap₂ (λ a b. a && b) (given_same shared hub own shows sound owns want.page)
     (other_alone own.client other (are_for any_right (asks_at (opened shared (own_of own)).shared other) want.page) (are_for any_right (asks_of (client_in hub other)) want.page)
     (λ apart.
@@ -117,7 +116,7 @@ blocks_same shared hub own shows sound owns want other =
     (ap (of_client [] (λ client. client.asks)) (others_opened shared (own_of own) other apart) ∙ asks_shown shared hub shows other))))
 
 -- so the blockers are the same, and so are the wants that are blocked
-pub blockers_same : (shared : Shared) (hub : HubView) (own : cache.Own) (missing : List Want) → Shows shared hub → IsSound hub → Owns hub own
+pub blockers_same : (shared : Shared) (hub : HubView) (own : cache.Own) (missing : List Want) → Shows shared hub → Whole hub → Owning hub own
     → blockers_of (opened shared (own_of own)).shared own.client (given_in_opening shared (own_of own)) missing ≡ blockers_in hub.pages hub.clients own.client missing
 blockers_same shared hub own missing shows sound owns =
     crew_of_same (λ other. list_any (λ want. blocks (opened shared (own_of own)).shared own.client (given_in_opening shared (own_of own)) want other) missing)
@@ -126,7 +125,7 @@ blockers_same shared hub own missing shows sound owns =
     any_same (λ want. blocks (opened shared (own_of own)).shared own.client (given_in_opening shared (own_of own)) want other)
     (λ want. stands_in_the_way hub.pages hub.clients own.client want other) (λ want. blocks_same shared hub own shows sound owns want other) missing)
 
-pub blocked_same : (shared : Shared) (hub : HubView) (own : cache.Own) (missing : List Want) → Shows shared hub → IsSound hub → Owns hub own
+pub blocked_same : (shared : Shared) (hub : HubView) (own : cache.Own) (missing : List Want) → Shows shared hub → Whole hub → Owning hub own
     → blocked_of (opened shared (own_of own)).shared own.client (given_in_opening shared (own_of own)) missing ≡ blocked_in hub.pages hub.clients own.client missing
 blocked_same shared hub own missing shows sound owns =
     filter_same (is_blocked (opened shared (own_of own)).shared own.client (given_in_opening shared (own_of own)))

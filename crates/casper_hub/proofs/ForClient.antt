@@ -1,4 +1,4 @@
-use Rattle.std.proofs.Common.{◌≡◌, ◌<◌, ℕ, List, [], sym, ap, subst, ◌∙◌, Contains}
+use Rattle.std.proofs.Common.{◌≡◌, ℕ, List, [], sym, ap, subst, ◌∙◌}
 use Rattle.std.specs.Prelude.{Option, None, slice_set}
 use Rattle.casper_words.specs.declared.page.Want.{Want}
 use Rattle.casper_trail.specs.declared.item.Item.{Item}
@@ -6,22 +6,24 @@ use Rattle.casper_dir.specs.Rights.{right_at}
 use Rattle.casper_cache.specs.declared.held.Held.{Held}
 use Rattle.casper_cache.specs.Holding.{right_of}
 use Rattle.casper_cache.specs.Own as cache
-use Rattle.casper_hub.specs.HubView.{HubView, ClientView, PagesView, place_in, page_count, right_in, with_asks}
+use Rattle.casper_hub.specs.HubView.{HubView, ClientView, PagesView, place_in, cap_in, right_in, with_asks}
 use Rattle.casper_hub.specs.HubFields.{hub_of}
-use Rattle.casper_hub.specs.Sound.{IsSound}
-use Rattle.casper_hub.specs.Owned.{Owns}
 use Rattle.casper_hub.specs.Given.{Covers, GivesUp}
 use Rattle.casper_hub.specs.Stages.{Opens, Refuses, Leaves}
-use Rattle.casper_hub.proofs.Opened.{begins_owned, covers_owned, opened_owns, opened_sound}
-use Rattle.casper_hub.proofs.Standing.{nobody_fell}
+use Rattle.casper_hub.specs.Owned.{Owns}
+use Rattle.casper_hub.specs.Sound.{IsSound, IsPlain}
+use Rattle.casper_hub.proofs.Whole.{whole, owning}
+use Rattle.casper_hub.proofs.Opened.{covers_owned, opened_rights}
+use Rattle.casper_hub.specs.GoesOn.{KeepsClient, CommitsNothing}
 use Rattle.casper_hub.proofs.Giving.{covers_after}
-use Rattle.casper_hub.proofs.Refused.{refused_sound}
+use Rattle.casper_hub.proofs.Relying.{kept_itself, nothing_itself}
 
 -- What holds for the client of a cache, said of its number.
 
 -- a hub that owns a cache covers it
-pub covers_for : (who : ℕ) (hub : HubView) (own : cache.Own) → own.client ≡ who → IsSound hub → Owns hub own → Covers who hub.pages own.held
-covers_for who hub own is sound owns = subst (λ (w : ℕ). Covers w hub.pages own.held) is (covers_owned hub own sound owns)
+pub covers_for : (who : ℕ) (hub : HubView) (own : cache.Own) → own.client ≡ who → IsSound hub → IsPlain hub → Owns hub own → Covers who hub.pages own.held
+covers_for who hub own is sound plain owns =
+    subst (λ (w : ℕ). Covers w hub.pages own.held) is (covers_owned hub own (whole hub sound plain) (owning hub own sound owns))
 
 -- what opened a turn of this client opened one of the cache's
 pub opens_for : (who limit : ℕ) (items trail : List Item) (places : List (Option ClientView)) (pages : PagesView) (own own_after : cache.Own) (after : HubView) → own.client ≡ who → items ≡ trail
@@ -30,34 +32,28 @@ opens_for who limit items trail places pages own own_after after is same opens =
     subst (λ (w : ℕ). Opens w (hub_of trail limit places pages) own after own_after) (sym is)
     (subst (λ (l : List Item). Opens who (hub_of l limit places pages) own after own_after) same opens)
 
--- and so is a hub sound behind a refusal
-pub sound_refused_for : (who : ℕ) (asks : List Want) (hub : HubView) (own : cache.Own) (trail : List Item) (limit : ℕ) (places after : List (Option ClientView)) (pages : PagesView) (own_after : cache.Own)
-    → own.client ≡ who → IsSound hub → Owns hub own → Opens own.client hub own (hub_of trail limit places pages) own_after
-    → after ≡ slice_set places who (with_asks asks (place_in places who)) → ((ask : Want) → Contains asks ask → ask.page < page_count hub) → IsSound (hub_of trail limit after pages)
-sound_refused_for who asks hub own trail limit places after pages own_after is sound owns opens changed range =
-    refused_sound asks hub own (hub_of trail limit after pages) own_after sound owns refuses range
-  where
-    refuses : Refuses own.client asks hub own (hub_of trail limit after pages) own_after
-    refuses = record {
-      opened = hub_of trail limit places pages;
-      opens = opens;
-      hub_is = ap (λ l. hub_of trail limit l pages) (subst (λ (w : ℕ). after ≡ slice_set places w (with_asks asks (place_in places w))) (sym is) changed);
-    }
+-- and whose asks were replaced was refused
+pub refuses_for : (who : ℕ) (asks : List Want) (hub : HubView) (own : cache.Own) (trail : List Item) (limit : ℕ) (places after : List (Option ClientView)) (pages : PagesView) (own_after : cache.Own)
+    → own.client ≡ who → Opens own.client hub own (hub_of trail limit places pages) own_after
+    → after ≡ slice_set places who (with_asks asks (place_in places who)) → Refuses own.client asks hub own (hub_of trail limit after pages) own_after
+refuses_for who asks hub own trail limit places after pages own_after is opens changed = record {
+  opened = hub_of trail limit places pages;
+  opens = opens;
+  hub_is = ap (λ l. hub_of trail limit l pages) (subst (λ (w : ℕ). after ≡ slice_set places w (with_asks asks (place_in places w))) (sym is) changed);
+}
 
--- behind an opening the cache covers its client's rights
-pub covers_opened_for : (who : ℕ) (hub : HubView) (own : cache.Own) (after : HubView) (own_after : cache.Own) → own.client ≡ who → IsSound hub → Owns hub own
+-- after an opening the cache covers its client's rights
+pub covers_opened_for : (who : ℕ) (hub : HubView) (own : cache.Own) (after : HubView) (own_after : cache.Own) → own.client ≡ who → IsSound hub → IsPlain hub → Owns hub own
     → Opens own.client hub own after own_after → Covers who after.pages own_after.held
-covers_opened_for who hub own after own_after is sound owns opens =
+covers_opened_for who hub own after own_after is sound plain owns opens =
     subst (λ (w : ℕ). Covers w after.pages own_after.held) is
-    (covers_after own.client hub.pages after.pages own.held own_after.held (covers_owned hub own sound owns) opens.gives)
+    (covers_after own.client hub.pages after.pages own.held own_after.held (covers_owned hub own (whole hub sound plain) (owning hub own sound owns)) opens.gives)
 
 -- and has just those
-pub rights_opened_for : (who : ℕ) (hub : HubView) (own : cache.Own) (after : HubView) (own_after : cache.Own) → own.client ≡ who → IsSound hub → Owns hub own
+pub rights_opened_for : (who : ℕ) (hub : HubView) (own : cache.Own) (after : HubView) (own_after : cache.Own) → own.client ≡ who → IsSound hub → IsPlain hub → Owns hub own
     → Opens own.client hub own after own_after → (page : ℕ) → right_at after.pages.rights who page ≡ right_of page own_after.held
-rights_opened_for who hub own after own_after is sound owns opens page =
-    ap (λ w. right_in after w page) (sym (ap (λ (o : cache.Own). o.client) opens.own_is ∙ is))
-    ∙ (opened_owns hub own after own_after sound owns opens).rights
-    (nobody_fell after own_after.client (opened_sound own.client hub own after own_after (begins_owned hub own sound owns) opens)) page
+rights_opened_for who hub own after own_after is sound plain owns opens page =
+    ap (λ w. right_in after w page) (sym is) ∙ opened_rights hub own after own_after (owning hub own sound owns) opens (whole hub sound plain) page
 
 -- a client that then gave up every page and became absent left
 pub leaves_for : (who : ℕ) (hub : HubView) (own : cache.Own) (trail : List Item) (limit : ℕ) (places places_after : List (Option ClientView)) (pages pages_after : PagesView)
@@ -75,3 +71,18 @@ leaves_for who hub own trail limit places places_after pages pages_after own_ope
   hub_is = ap (λ l. hub_of trail limit l pages_after) (left ∙ ap (λ w. slice_set places w None) (sym is));
   own_is = allowed ∙ ap (λ (o : cache.Own). record o { cap = 0 }) (given ∙ ap (λ (o : cache.Own). record o { held = [] }) opens.own_is);
 }
+
+-- the server knows the cap of the cache
+pub cap_for : (who : ℕ) (hub : HubView) (own : cache.Own) → own.client ≡ who → IsSound hub → Owns hub own → cap_in hub who ≡ own.cap
+cap_for who hub own is sound owns = ap (λ (w : ℕ). cap_in hub w) (sym is) ∙ (owning hub own sound owns).cap
+
+-- room taken in the trail changes nothing
+module _ (hub : HubView) (limit : ℕ) (items trail : List Item) (places : List (Option ClientView)) (pages : PagesView) (view : hub_of trail limit places pages ≡ hub) (same : items ≡ trail) where
+  reserved_same : hub_of items limit places pages ≡ hub
+  reserved_same = ap (λ (l : List Item). hub_of l limit places pages) same ∙ view
+
+  pub kept_reserved : (other : ℕ) → KeepsClient other hub (hub_of items limit places pages)
+  kept_reserved other = subst (λ (h : HubView). KeepsClient other hub h) (sym reserved_same) (kept_itself other hub)
+
+  pub nothing_reserved : CommitsNothing hub (hub_of items limit places pages)
+  nothing_reserved = subst (λ (h : HubView). CommitsNothing hub h) (sym reserved_same) (nothing_itself hub)

@@ -8,7 +8,9 @@ use Rattle.casper_model.specs.declared.reply.Reply.TheVariants.{Granted}
 use Rattle.casper_model.specs.Held.{allows, with_granted}
 use Rattle.casper_model.specs.Stabilisation.{is_empty}
 use Rattle.casper_model.specs.Client.{Client}
-use Rattle.casper_model.specs.Shared.{Shared, client_at}
+use Rattle.casper_model.specs.Shared.{Shared, client_at, rights_at, of_client}
+use Rattle.casper_words.specs.declared.page.Right.{Right}
+use Rattle.casper_dir.specs.Rights.{right_at}
 use Rattle.casper_model.specs.Own.{Own}
 use Rattle.casper_model.specs.Both.{Both, Turned}
 use Rattle.casper_model.specs.Opening.{opened, given_in_opening}
@@ -18,13 +20,13 @@ use Rattle.casper_model.proofs.Places.{client_changed, client_unchanged}
 use Rattle.casper_model.proofs.OpeningRights.{places_changed}
 use Rattle.casper_hub.specs.HubView.{HubView, ClientView, client_in, free_in, with_cap, with_asks}
 use Rattle.casper_hub.specs.Shows.{permits, fallen_of, Shows, ShowsClient}
-use Rattle.casper_hub.specs.Sound.{IsSound}
-use Rattle.casper_hub.specs.Owned.{wants_of, own_of, Owns}
+use Rattle.casper_hub.specs.Owned.{wants_of, own_of}
 use Rattle.casper_hub.specs.Given.{topped}
 use Rattle.casper_hub.specs.Installing.{with_pages, all_raised, all_fronted}
 use Rattle.casper_hub.specs.Deciding.{missing_in, blockers_in}
 use Rattle.casper_hub.specs.Stages.{CanGrant, Grants}
 use Rattle.casper_hub.specs.Turns.{Acquires, first_unframed}
+use Rattle.casper_hub.proofs.Whole.{Whole, Owning}
 use Rattle.casper_hub.proofs.Showing.{allows_right}
 use Rattle.casper_hub.proofs.Standing.{Live, live_shown}
 use Rattle.casper_hub.proofs.OpenedTurns.{kept_held, own_opened, client_opened}
@@ -35,30 +37,32 @@ use Rattle.casper_hub.proofs.Blocking.{missing_same}
 use Rattle.casper_hub.proofs.AcquiredTurns.{granted_answer}
 
 -- the own part of the machine once it is granted
-own_granted : (shared : Shared) (hub : HubView) (own : cache.Own) (wants missing : List Want) → Shows shared hub → IsSound hub → Owns hub own
+own_granted : (shared : Shared) (hub : HubView) (own : cache.Own) (wants missing : List Want) → Shows shared hub → Whole hub → Owning hub own
     → (granted wants missing (acquiring.with_asks [] (opened shared (own_of own)))).own
     ≡ record (own_of own) { cap = topped own (free_in hub) - length missing; held = with_granted own.capacity wants (wants_of (kept_held hub own)); pending = [] }
 own_granted shared hub own wants missing shows sound owns =
     ap (λ (o : Own). record o { cap = o.cap - length missing; held = with_granted o.capacity wants o.held }) (own_opened shared hub own shows sound owns)
 
--- the places of the hub behind the opening of an acquire that is granted
+-- the places of the hub after the opening of an acquire that is granted
 places_granted : (hub : HubView) (own : cache.Own) (wants missing : List Want) (after : HubView) (own_after : cache.Own)
     → (grants : Grants own.client wants missing hub own after own_after) → length grants.opened.clients ≡ length hub.clients
 places_granted hub own wants missing after own_after grants = ap (λ (h : HubView). length h.clients) grants.opens.hub_is ∙ length-set hub.clients own.client _
 
--- the cap of the cache behind its opening
+-- the cap of the cache after its opening
 cap_granted : (hub : HubView) (own : cache.Own) (wants missing : List Want) (after : HubView) (own_after : cache.Own) → (grants : Grants own.client wants missing hub own after own_after)
     → grants.opened_own.cap ≡ topped own (free_in hub)
 cap_granted hub own wants missing after own_after grants = ap (λ (o : cache.Own). o.cap) grants.opens.own_is
 
 -- a hub that granted an acquire stands for the machine that granted it
-granted_shows : (shared : Shared) (hub : HubView) (own : cache.Own) (wants missing : List Want) (after : HubView) (own_after : cache.Own) → Shows shared hub → IsSound hub → Owns hub own
-    → (grants : Grants own.client wants missing hub own after own_after) → IsSound grants.opened → cache.IsSound own_after
+granted_shows : (shared : Shared) (hub : HubView) (own : cache.Own) (wants missing : List Want) (after : HubView) (own_after : cache.Own) → Shows shared hub → Whole hub → Owning hub own
+    → (grants : Grants own.client wants missing hub own after own_after) → Whole grants.opened → cache.IsSound own_after
     → with_granted own.capacity wants (wants_of (kept_held hub own)) ≡ wants_of own_after.held
     → Shows (granted wants missing (acquiring.with_asks [] (opened shared (own_of own)))).shared after
 granted_shows shared hub own wants missing after own_after shows sound owns grants sound_opened sound_after held_same =
     shows_after own.client both.shared both_after.shared grants.opened after shows_opened sound_opened
     (record {
+      more = as_items (touches_by own.client missing);
+      grows = ap (λ (h : HubView). h.trail) grants.hub_is;
       trail = ap₂ (λ trail who. trail ++ as_items (touches_by who missing)) shows_opened.trail who ∙ sym (ap (λ (h : HubView). h.trail) grants.hub_is);
       limit = refl;
       limit_too = ap (λ (h : HubView). h.limit) grants.hub_is;
@@ -73,9 +77,10 @@ granted_shows shared hub own wants missing after own_after shows sound owns gran
       clients_too = λ other apart.
           ap (λ (h : HubView). client_in h other) grants.hub_is
           ∙ get_or-set_other grants.opened.clients own.client other (with_asks [] (with_cap (grants.opened_own.cap - length missing) (client_in grants.opened own.client))) None apart;
+      holders = grants.gives.holders;
       rights = λ other page is apart. grants.gives.others other page is apart ∙ grants.granted_others other page is apart;
     })
-    acting
+    acting acting_rights
   where
     both : Both
     both = opened shared (own_of own)
@@ -132,22 +137,25 @@ granted_shows shared hub own wants missing after own_after shows sound owns gran
         ∙ get_or-set_same grants.opened.clients own.client (with_asks [] (with_cap (grants.opened_own.cap - length missing) (client_in grants.opened own.client))) None within
         ∙ ap (λ place. with_asks [] (with_cap (grants.opened_own.cap - length missing) place)) opened_here
 
-    acting : ShowsClient after.trail after.pages.rights own.client (client_at both_after.shared own.client) (client_in after own.client)
+    acting : ShowsClient after.trail (client_at both_after.shared own.client) (client_in after own.client)
     acting =
-        subst (λ place. ShowsClient after.trail after.pages.rights own.client place (client_in after own.client)) (sym there)
-        (subst (λ shown. ShowsClient after.trail after.pages.rights own.client (Some (agreeing (asking opened_client))) shown) (sym here)
+        subst (λ place. ShowsClient after.trail place (client_in after own.client)) (sym there)
+        (subst (λ shown. ShowsClient after.trail (Some (agreeing (asking opened_client))) shown) (sym here)
         (record {
           cap = ap (λ (o : Own). o.cap) machine_own ∙ ap (λ cap. cap - length missing) (sym (cap_granted hub own wants missing after own_after grants));
           asks = refl;
           kept = sym live.kept;
           fallen = live.shows.fallen ∙ ap (option_map (fallen_of hub.trail)) live.up ∙ sym (ap (option_map (fallen_of after.trail)) live.up);
-          rights = λ page right.
-              ap (λ (o : Own). allows o.held page right) machine_own ∙ ap (λ held. allows held page right) held_same
-              ∙ allows_right own_after.held sound_after.distinct page right ∙ ap (λ one. permits one right) (sym (grants.all page));
         }))
 
--- the cache behind it stands for the machine's own part
-own_after_granting : (shared : Shared) (hub : HubView) (own : cache.Own) (wants missing : List Want) (after : HubView) (own_after : cache.Own) → Shows shared hub → IsSound hub → Owns hub own
+    acting_rights : (page : ℕ) (right : Right) → allows (rights_at both_after.shared own.client) page right ≡ permits (right_at after.pages.rights own.client page) right
+    acting_rights page right =
+        ap (λ place. allows (of_client [] (λ (client : Client). client.rights) place) page right) there
+        ∙ ap (λ (o : Own). allows o.held page right) machine_own ∙ ap (λ held. allows held page right) held_same
+        ∙ allows_right own_after.held sound_after.distinct page right ∙ ap (λ one. permits one right) (sym (grants.all page))
+
+-- the cache after it stands for the machine's own part
+own_after_granting : (shared : Shared) (hub : HubView) (own : cache.Own) (wants missing : List Want) (after : HubView) (own_after : cache.Own) → Shows shared hub → Whole hub → Owning hub own
     → (grants : Grants own.client wants missing hub own after own_after) → with_granted own.capacity wants (wants_of (kept_held hub own)) ≡ wants_of own_after.held
     → own_of own_after ≡ (granted wants missing (acquiring.with_asks [] (opened shared (own_of own)))).own
 own_after_granting shared hub own wants missing after own_after shows sound owns grants held_same =
@@ -162,10 +170,10 @@ own_after_granting shared hub own wants missing after own_after shows sound owns
         ∙ ap (λ held. record own { pending = []; cap = topped own (free_in hub) - length missing; held = held }) (sym (ap (λ (o : cache.Own). o.held) grants.own_is))
 
 -- an acquire that the hub grants is one that the machine grants
-pub grant_turn : (hub : HubView) (own : cache.Own) (wants missing : List Want) (calls : ℕ) (after : HubView) (own_after : cache.Own) → IsSound hub → Owns hub own
+pub grant_turn : (hub : HubView) (own : cache.Own) (wants missing : List Want) (calls : ℕ) (after : HubView) (own_after : cache.Own) → Whole hub → Owning hub own
     → is_empty (blockers_in hub.pages hub.clients own.client (missing_in hub.pages hub.clients own.client wants)) ≡ true
     → nat_lt (topped own (free_in hub)) (length (missing_in hub.pages hub.clients own.client wants) + calls) ≡ false
-    → CanGrant own.client hub own wants missing → (grants : Grants own.client wants missing hub own after own_after) → IsSound grants.opened → cache.IsSound own_after
+    → CanGrant own.client hub own wants missing → (grants : Grants own.client wants missing hub own after own_after) → Whole grants.opened → cache.IsSound own_after
     → with_granted own.capacity wants (wants_of (kept_held hub own)) ≡ wants_of own_after.held
     → Acquires hub own wants calls Granted after own_after
 grant_turn hub own wants missing calls after own_after sound owns empty short can grants sound_opened sound_after held_same = (

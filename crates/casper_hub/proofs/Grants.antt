@@ -1,25 +1,26 @@
-use Rattle.std.proofs.Common.{◌≡◌, ◌≢◌, ◌<◌, ℕ, ◌-◌, ◌∙◌, List, [], ◌++◌, length, take, get_or-set_same, ap, subst, arith}
+use Rattle.std.proofs.Common.{◌≡◌, ◌≢◌, ◌<◌, ◌≤◌, ℕ, ◌+◌, ◌-◌, ◌∙◌, List, [], ◌++◌, length, take, get_or-set_same, ap, subst, arith}
 use Rattle.std.specs.Prelude.{Option, None, slice_set}
 use Rattle.std.proofs.lemmas.List.{set-set}
 use Rattle.casper_words.specs.Crew.{IsClient}
 use Rattle.casper_words.specs.declared.page.Want.{Want}
 use Rattle.casper_trail.specs.Parts.{as_items}
+use Rattle.casper_trail.specs.TrailView.{entry_count}
 use Rattle.casper_dir.specs.Rights.{right_at}
 use Rattle.casper_cache.specs.declared.held.Held.{Held}
 use Rattle.casper_cache.specs.Holding.{right_of}
 use Rattle.casper_cache.specs.Own as cache
 use Rattle.casper_model.specs.Acquire.{touches_by}
-use Rattle.casper_hub.specs.HubView.{HubView, PagesView, ClientView, place_in, client_in, cap_of, with_cap, with_asks}
-use Rattle.casper_hub.specs.Sound.{IsSound}
-use Rattle.casper_hub.specs.Given.{GivesUp}
-use Rattle.casper_hub.specs.Installing.{all_raised, all_fronted}
+use Rattle.casper_hub.specs.HubView.{HubView, PagesView, ClientView, place_in, client_in, cap_of, cap_in, free_in, with_cap, with_asks}
+use Rattle.casper_hub.specs.Given.{GivesUp, topped}
+use Rattle.casper_hub.specs.Installing.{with_pages, all_raised, all_fronted}
 use Rattle.casper_hub.specs.Stages.{Grants}
-use Rattle.casper_hub.proofs.Opened.{opened_cap, opened_sound}
+use Rattle.casper_hub.proofs.Opened.{opened_cap, opened_formed, opened_sound}
+use Rattle.casper_hub.proofs.Whole.{cap_within}
 use Rattle.casper_hub.proofs.Installed.{begins_installed}
-use Rattle.casper_hub.proofs.Granting.{installed_in, granted_sound}
+use Rattle.casper_hub.proofs.Granting.{Granting, installed_in}
 use Rattle.casper_hub.proofs.Ready.{Ready, GivesRights}
 
--- What giving rights behind an opening, and giving up what is too much, comes to.
+-- What giving rights after an opening, and giving up what is too much, comes to.
 
 -- what was made of an opened turn
 pub record Made (who : ℕ) (wants missing : List Want) (opened : HubView) (opened_own : cache.Own) (after : HubView) (own_after : cache.Own) : Type 0 where
@@ -93,7 +94,7 @@ granted_turn hub own wants missing opened opened_own after own_after ready made 
     below : own.client < length opened.clients
     below =
         let most = ready.owns.client.1 in
-        let long = (opened_sound own.client hub (installed_in hub own missing) opened opened_own (begins_installed hub own missing ready.sound ready.owns) ready.opens).places in
+        let long = (opened_formed own.client hub (installed_in hub own missing) opened opened_own (begins_installed hub own missing ready.sound ready.owns) ready.opens).places in
         omega (arith, most, long)
 
     here : place_in made.set own.client ≡ with_cap made.cap (client_in opened own.client)
@@ -107,16 +108,15 @@ granted_turn hub own wants missing opened opened_own after own_after ready made 
         ∙ set-set opened.clients own.client (with_cap made.cap (client_in opened own.client)) (with_asks [] (with_cap made.cap (client_in opened own.client)))
         ∙ ap (λ n. slice_set opened.clients own.client (with_asks [] (with_cap n (client_in opened own.client)))) cap
 
--- and leaves a sound hub
-pub made_sound : (hub : HubView) (own : cache.Own) (wants missing : List Want) (opened : HubView) (opened_own : cache.Own) (after : HubView) (own_after : cache.Own)
-    → Ready hub own wants missing opened opened_own → Made own.client wants missing opened opened_own after own_after → IsSound after
-made_sound hub own wants missing opened opened_own after own_after ready made =
-    granted_sound hub own wants missing after own_after record {
-      sound = ready.sound;
-      owns = ready.owns;
-      can = ready.can;
-      grants = granted_turn hub own wants missing opened opened_own after own_after ready made;
-    }
+-- of a client that owns its cache
+pub granting_made : (hub : HubView) (own : cache.Own) (wants missing : List Want) (opened : HubView) (opened_own : cache.Own) (after : HubView) (own_after : cache.Own)
+    → Ready hub own wants missing opened opened_own → Made own.client wants missing opened opened_own after own_after → Granting hub own wants missing after own_after
+granting_made hub own wants missing opened opened_own after own_after ready made = record {
+  sound = ready.sound;
+  owns = ready.owns;
+  can = ready.can;
+  grants = granted_turn hub own wants missing opened opened_own after own_after ready made;
+}
 
 -- the pages that are held once the wanted ones are in front
 pub fronted_held : (opened_own given allowed fronted : cache.Own) (missing wants : List Want) (cap : ℕ) → given ≡ record opened_own { held = all_raised opened_own.held missing }
@@ -124,3 +124,14 @@ pub fronted_held : (opened_own given allowed fronted : cache.Own) (missing wants
 fronted_held opened_own given allowed fronted missing wants cap given_is allowed_is fronted_is =
     ap (λ (o : cache.Own). o.held) fronted_is
     ∙ ap (λ (o : cache.Own). all_fronted o.held wants) allowed_is ∙ ap (λ (o : cache.Own). all_fronted o.held wants) given_is
+
+-- there is room for a touch of each missing page
+pub room_ready : (hub : HubView) (own : cache.Own) (wants missing : List Want) (opened : HubView) (opened_own : cache.Own) → Ready hub own wants missing opened opened_own
+    → entry_count opened.trail + length missing ≤ opened.limit
+room_ready hub own wants missing opened opened_own ready =
+    let begins = begins_installed hub own missing ready.sound ready.owns in
+    let within = cap_within opened own.client ready.owns.client (opened_sound hub own (with_pages hub.pages own.held missing) opened opened_own begins ready.owns ready.opens).sound in
+    let cap : cap_in opened own.client ≡ topped own (free_in hub) =
+    opened_cap own.client hub (installed_in hub own missing) opened opened_own begins ready.opens ∙ ap (λ (o : cache.Own). o.cap) ready.opens.own_is in
+    let room = ready.can.room in
+    omega (arith, within, cap, room)

@@ -1,9 +1,7 @@
-use Rattle.std.proofs.Common.{◌≡◌, ℕ, ◌<◌, List, [], ◌∷◌, ◌++◌, Bool, true, false, cond, ◌&&◌, ◌==◌, nat_eq, eq-eqb, length, set, get_or, get_or-set_same, get_or-set_other, length-set, refl, sym, ap, ◌∙◌, subst, ⊎_elim, append_assoc, Contains, slice_index, arith}
+use Rattle.std.proofs.Common.{◌≡◌, ℕ, ◌<◌, List, [], ◌∷◌, ◌++◌, Bool, true, false, cond, ◌&&◌, ◌==◌, nat_eq, eq-eqb, length, set, get_or, get_or-set_same, get_or-set_other, length-set, refl, sym, ap, ◌∙◌, subst, ⊎_elim, append_assoc, slice_index, arith}
 use Rattle.std.specs.Prelude.{Option, None, Some, IsSome, option_map, unwrap_or, IfSome}
 use Rattle.std.proofs.lemmas.Bool.{cases_eq, ne_eqb}
 use Rattle.std.proofs.lemmas.List.{map-append}
-use Rattle.casper_words.specs.declared.page.Right.{Right}
-use Rattle.casper_words.specs.declared.page.Right.TheVariants as may
 use Rattle.casper_words.specs.declared.call.Op.TheVariants as op
 use Rattle.casper_words.specs.declared.call.Call.{Call}
 use Rattle.casper_trail.specs.declared.entry.Entry.{Entry}
@@ -12,97 +10,60 @@ use Rattle.casper_trail.specs.Parts.{live_entries}
 use Rattle.casper_trail.specs.Calls.{entry_by, entries_by}
 use Rattle.casper_trail.proofs.Values.{value_of_more}
 use Rattle.casper_cache.specs.declared.held.Held.{Held}
-use Rattle.casper_cache.specs.Holding.{is_of, entry_of, right_of, words_of, front_of, written, with_word, ArePagesDistinct}
+use Rattle.casper_cache.specs.Holding.{is_of, entry_of, words_of, front_of, with_word}
 use Rattle.casper_cache.specs.Own as cache
-use Rattle.casper_cache.proofs.Entries.{entry_of-page, distinct-front_of, distinct-written}
+use Rattle.casper_cache.proofs.Entries.{entry_of-page}
 use Rattle.casper_cache.proofs.ChangeLaws.{front_keeps_entries, written_changes_one}
 use Rattle.casper_cache.proofs.SoundSteps.{sound-after_read, sound-after_write, length-front_of, length-written}
-use Rattle.casper_model.specs.LegalHistory.{right_for, CallIsHeld}
-use Rattle.casper_model.proofs.Entries.{contains_append, contains_cases}
+use Rattle.casper_model.specs.Hits.{hit_read, hit_write, with_call}
+use Rattle.casper_turns.proofs.HitTurns.{read_hit_keeps, write_hit_keeps}
 use Rattle.casper_hub.specs.HubView.{HubView, items_seen}
 use Rattle.casper_hub.specs.Words.{seen_value, AreWords}
-use Rattle.casper_hub.specs.Shows.{permits}
-use Rattle.casper_hub.specs.Owned.{wants_of}
+use Rattle.casper_hub.specs.Owned.{own_of}
 use Rattle.casper_hub.specs.Relying.{OwnsBehindRead, OwnsBehindWrite, RightBehindRead, RightBehindWrite, HitsReadWhatIsSeen}
-use Rattle.casper_hub.proofs.Showing.{allows_right}
+use Rattle.casper_hub.proofs.StandsFor.{good_with, good_with_each}
+use Rattle.casper_hub.proofs.HeldHits.{can_read, can_write, own_behind_read, own_behind_write}
 use Rattle.casper_hub.proofs.Giving.{words_held}
 use Rattle.casper_hub.proofs.Relying.{same_words}
 
--- a call whose page is held with the right that it needs
-pub held_by_right : (held : List Held) (call : Call) → ArePagesDistinct held → permits (right_of call.page held) (right_for call.op) ≡ true → CallIsHeld (wants_of held) call
-held_by_right held call distinct permitted = allows_right held distinct call.page (right_for call.op) ∙ permitted
+-- what a hit leaves of the own part, the machine's hit leaves
+read_hit_made : (own : cache.Own) (page word value : ℕ) → cache.IsSound own → cache.CanRead own page
+    → hit_read (own_of own) page word value ≡ Some (own_of (cache.after_read own (record { op = op.Read; page = page; word = word; value = value })))
+read_hit_made own page word value sound can =
+    ap (λ hit. cond hit (Some (with_call (own_of own) op.Read page word value)) None) (can_read own page sound can) ∙ ap Some (sym (own_behind_read own page word value sound))
 
--- calls stay held where the rights to the pages stay
-pub held_by_rights : (held now : List Held) (call : Call) → ArePagesDistinct held → ArePagesDistinct now → right_of call.page now ≡ right_of call.page held
-    → CallIsHeld (wants_of held) call → CallIsHeld (wants_of now) call
-held_by_rights held now call distinct distinct_now same is =
-    held_by_right now call distinct_now
-    (ap (λ one. permits one (right_for call.op)) same ∙ sym (allows_right held distinct call.page (right_for call.op)) ∙ is)
-
--- one call more is held, where it and those before it are
-held_more : (held : List Held) (pending : List Call) (call : Call) → ((one : Call) → Contains pending one → CallIsHeld (wants_of held) one) → CallIsHeld (wants_of held) call
-    → (one : Call) → Contains (pending ++ call ∷ []) one → CallIsHeld (wants_of held) one
-held_more held pending call before last one inside =
-    ⊎_elim (λ earlier. before one earlier)
-    (λ here. ⊎_elim (λ is. subst (λ it. CallIsHeld (wants_of held) it) is last) (λ never. absurd (omega (arith, never.1))) (contains_cases call [] one here))
-    (contains_append pending (call ∷ []) one inside)
-
-right_in_front : (page q : ℕ) (held : List Held) → right_of q (front_of page held) ≡ right_of q held
-right_in_front page q held = ap (option_map (λ (h : Held). h.right)) (front_keeps_entries page q held)
-
--- a written page keeps its right
-right_written : (page word value q : ℕ) (held : List Held) → right_of q (written page word value held) ≡ right_of q held
-right_written page word value q held =
-    ap (option_map (λ (h : Held). h.right)) (written_changes_one page word value q held) ∙ of_entry (entry_of q held)
-  where
-    of_entry : (o : Option Held) → option_map (λ (h : Held). h.right) (option_map (λ (entry : Held). cond (is_of page entry) (with_word word value entry) entry) o) ≡ option_map (λ (h : Held). h.right) o
-    of_entry None = refl
-    of_entry (Some entry) = elim (is_of page entry) as (λ b. Some (cond b (with_word word value entry) entry).right ≡ Some entry.right) [ true ↦ refl | false ↦ refl ]
+write_hit_made : (own : cache.Own) (page word value : ℕ) → cache.IsSound own → cache.CanWrite own page
+    → hit_write (own_of own) page word value ≡ Some (own_of (cache.after_write own (record { op = op.Write; page = page; word = word; value = value })))
+write_hit_made own page word value sound can =
+    ap (λ hit. cond hit (Some (with_call (own_of own) op.Write page word value)) None) (can_write own page sound can) ∙ ap Some (sym (own_behind_write own page word value sound))
 
 pub owns_behind_read : OwnsBehindRead
 owns_behind_read hub own page word value owns can = record {
   sound = sound-after_read own call owns.sound can.room;
-  client = owns.client;
-  live = owns.live;
-  cap = owns.cap;
   few = let fewer = length-front_of page own.held in let few = owns.few in omega (arith, fewer, few);
-  rights = λ up q. owns.rights up q ∙ sym (right_in_front page q own.held);
-  calls = λ up.
-      let distinct = distinct-front_of page own.held owns.sound.distinct in
-      held_more (front_of page own.held) own.pending call
-      (λ one inside. held_by_rights own.held (front_of page own.held) one owns.sound.distinct distinct (right_in_front page one.page own.held) (owns.calls up one inside))
-      (held_by_right (front_of page own.held) call distinct
-      (ap (λ one. permits one may.Read) (right_in_front page page own.held) ∙ reads (right_of page own.held) can.held));
+  live = owns.live;
+  good = good_with_each hub (own_of (cache.after_read own call)) (λ shared shows good.
+      read_hit_keeps shared (own_of own) (own_of (cache.after_read own call)) page word value (good_with hub (own_of own) owns.good shared shows good)
+      (read_hit_made own page word value owns.sound can));
 }
   where
     call : Call
     call = record { op = op.Read; page = page; word = word; value = value }
 
-    reads : (right : Option Right) → IsSome right → permits right may.Read ≡ true
-    reads None is = is
-    reads (Some may.Read) is = refl
-    reads (Some may.Write) is = refl
-
 pub owns_behind_write : OwnsBehindWrite
 owns_behind_write hub own page word value owns can = record {
   sound = sound-after_write own call owns.sound can.room;
-  client = owns.client;
-  live = owns.live;
-  cap = owns.cap;
   few = let fewer = length-written page word value own.held in let few = owns.few in omega (arith, fewer, few);
-  rights = λ up q. owns.rights up q ∙ sym (right_written page word value q own.held);
-  calls = λ up.
-      let distinct = distinct-written page word value own.held owns.sound.distinct in
-      held_more (written page word value own.held) own.pending call
-      (λ one inside. held_by_rights own.held (written page word value own.held) one owns.sound.distinct distinct (right_written page word value one.page own.held) (owns.calls up one inside))
-      (held_by_right (written page word value own.held) call distinct
-      (ap (λ one. permits one may.Write) (right_written page word value page own.held) ∙ ap (λ one. permits one may.Write) can.held));
+  live = owns.live;
+  good = good_with_each hub (own_of (cache.after_write own call)) (λ shared shows good.
+      write_hit_keeps shared (own_of own) (own_of (cache.after_write own call)) page word value (good_with hub (own_of own) owns.good shared shows good)
+      (write_hit_made own page word value owns.sound can));
 }
   where
     call : Call
     call = record { op = op.Write; page = page; word = word; value = value }
 
--- what a client sees behind one call more
+-- what a client sees after one call more
 seen_more : (base : List (List ℕ)) (hub : HubView) (own : cache.Own) (call : Call) (page word : ℕ)
     → value_of base (live_entries (items_seen hub own.client) ++ entries_by own.client (own.pending ++ call ∷ [])) page word
     ≡ value_after page word (seen_value base hub own page word) (entry_by own.client call)

@@ -18,14 +18,12 @@ use Rattle.casper_model.proofs.Entries.{contains_cases}
 use Rattle.casper_trail.proofs.LinkLists.{contains_there}
 use Rattle.casper_hub.specs.HubView.{HubView, PagesView, frame_in, right_in}
 use Rattle.casper_hub.specs.Words.{live_value, stored_value, seen_value, AreWords, HeldIsRight, FramesAreRight, CacheIsRight}
-use Rattle.casper_hub.specs.Sound.{IsSound}
-use Rattle.casper_hub.specs.Owned.{Owns}
 use Rattle.casper_hub.specs.Installing.{with_page, with_pages}
 use Rattle.casper_hub.specs.Deciding.{stands_in_the_way, is_given}
 use Rattle.casper_hub.specs.Asks.{asks_for}
 use Rattle.casper_model.specs.Opening.{any_right}
 use Rattle.casper_hub.specs.Stages.{CanGrant}
-use Rattle.casper_hub.proofs.Standing.{nobody_fell}
+use Rattle.casper_hub.proofs.Whole.{Whole, Owning, nobody_fell}
 use Rattle.casper_hub.proofs.Giving.{writer_is_client}
 use Rattle.casper_hub.proofs.Relying.{seen_plain, same_words}
 use Rattle.casper_hub.proofs.Changing.{values_stay}
@@ -155,7 +153,7 @@ others_write_not who hub own wants missing can want inside other client differ w
     in_conflict may.Write = refl
 
 -- so a missing page to which the client has no right has no writer
-no_writer_missing : (who : ℕ) (hub : HubView) (own : cache.Own) (wants missing : List Want) → IsSound hub → CanGrant who hub own wants missing
+no_writer_missing : (who : ℕ) (hub : HubView) (own : cache.Own) (wants missing : List Want) → Whole hub → CanGrant who hub own wants missing
     → (want : Want) → Contains missing want → right_at hub.pages.rights who want.page ≡ None → writer_at hub.pages.rights want.page ≡ None
 no_writer_missing who hub own wants missing sound can want inside absent = of_writer (writer_at hub.pages.rights want.page) refl
   where
@@ -171,7 +169,7 @@ no_writer_missing who hub own wants missing sound can want inside absent = of_wr
         (cases_eq writer who))
 
 -- a turn begins as well once the missing pages are installed
-pub begins_installed : (hub : HubView) (own : cache.Own) (missing : List Want) → IsSound hub → Owns hub own
+pub begins_installed : (hub : HubView) (own : cache.Own) (missing : List Want) → Whole hub → Owning hub own
     → Begins own.client hub (record own { held = with_pages hub.pages own.held missing })
 begins_installed hub own missing sound owns = record {
   sound = sound;
@@ -191,7 +189,7 @@ begins_installed hub own missing sound owns = record {
 }
 
 -- and the words of the cache are right with them
-pub words_installed : (base : List (List ℕ)) (hub : HubView) (own : cache.Own) (wants missing : List Want) → IsSound hub → Owns hub own → CanGrant own.client hub own wants missing
+pub words_installed : (base : List (List ℕ)) (hub : HubView) (own : cache.Own) (wants missing : List Want) → Whole hub → Owning hub own → CanGrant own.client hub own wants missing
     → FramesAreRight base hub → CacheIsRight base hub own → CacheIsRight base hub (record own { held = with_pages hub.pages own.held missing })
 words_installed base hub own wants missing sound owns can frames words =
     right_with_pages_in (seen_value base hub own) hub.pages own.held missing installed words

@@ -12,6 +12,7 @@ pub mod GrantedRights
 pub mod GrantedTurns
 pub mod Granting
 pub mod Grants
+pub mod HeldHits
 pub mod Hitting
 pub mod Installed
 pub mod Installing
@@ -36,6 +37,8 @@ pub mod Showing
 pub mod ShownAfter
 pub mod ShownPlaces
 pub mod Standing
+pub mod StandsFor
 pub mod Supplied
 pub mod Touched
-pub mod Witness
+pub mod Transport
+pub mod Whole

@@ -19,13 +19,12 @@ use Rattle.casper_model.specs.Held.{with_granted}
 use Rattle.casper_words.specs.Wants.{AreWants}
 use Rattle.casper_hub.specs.HubView.{HubView, right_in, place_in, asks_of}
 use Rattle.casper_hub.specs.Asks.{are_for, asks_for, is_asked_for}
-use Rattle.casper_hub.specs.Sound.{IsSound}
-use Rattle.casper_hub.specs.Owned.{Owns, wants_of}
+use Rattle.casper_hub.specs.Owned.{wants_of}
 use Rattle.casper_hub.specs.Given.{met, right_kept}
 use Rattle.casper_hub.specs.Deciding.{fell, is_given, stands_in_the_way}
 use Rattle.casper_hub.specs.Installing.{with_pages, all_raised, all_fronted}
 use Rattle.casper_hub.specs.Stages.{CanGrant, Grants}
-use Rattle.casper_hub.proofs.Standing.{nobody_fell}
+use Rattle.casper_hub.proofs.Whole.{Whole, Owning, nobody_fell}
 use Rattle.casper_hub.proofs.Deciding.{crew_none}
 use Rattle.casper_hub.proofs.Installed.{fails_in}
 use Rattle.casper_hub.proofs.OpenedTurns.{kept_held, kept_same}
@@ -108,7 +107,7 @@ missing_stays hub own wants missing can want inside =
         (asked_at_all hub own.client want.page) (nobody_asks given)
 
 -- the pages that a client holds once an acquire is granted are those of the machine
-pub granted_held_is : (hub : HubView) (own : cache.Own) (wants missing : List Want) (after : HubView) (own_after : cache.Own) → IsSound hub → Owns hub own → AreWants wants
+pub granted_held_is : (hub : HubView) (own : cache.Own) (wants missing : List Want) (after : HubView) (own_after : cache.Own) → Whole hub → Owning hub own → AreWants wants
     → CanGrant own.client hub own wants missing → Grants own.client wants missing hub own after own_after
     → with_granted own.capacity wants (wants_of (kept_held hub own)) ≡ wants_of own_after.held
 granted_held_is hub own wants missing after own_after sound owns are can grants =

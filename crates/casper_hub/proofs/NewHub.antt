@@ -1,18 +1,20 @@
-use Rattle.std.proofs.Common.{◌≡◌, ℕ, zero, suc, ◌+◌, ◌<◌, ◌^◌, List, [], cond, length, set, replicate, get_or, get_or-set_other, refl, sym, ap, ◌∙◌, subst, ⊎_elim, true≢false, Contains, arith}
-use Rattle.std.specs.Prelude.{Option, None, Some, IsSome, is_some, option_and_then}
+use Rattle.std.proofs.Common.{◌≡◌, ℕ, ◌<◌, ◌^◌, List, [], cond, length, set, replicate, get_or, get_or-set_other, refl, sym, ap, ◌∙◌, subst, ⊎_elim, true≢false, Contains, arith}
+use Rattle.std.specs.Prelude.{Option, None, Some, IsSome, is_some}
 use Rattle.std.proofs.lemmas.Bool.{cases_lt, cond_both}
 use Rattle.std.proofs.lemmas.List.{get_or-replicate, get_or_past, length-replicate, length-set}
-use Rattle.std.proofs.lemmas.List.Sums.{sum_by-cons}
 use Rattle.casper_words.specs.declared.page.Want.{Want}
 use Rattle.casper_trail.specs.declared.item.Item.{Item}
-use Rattle.casper_trail.specs.TrailView.{entry_count}
 use Rattle.casper_dir.specs.Rights.{right_at, AreAllClients}
 use Rattle.casper_model.specs.Client.{Client}
-use Rattle.casper_model.specs.Shared.{new_shared}
-use Rattle.casper_hub.specs.HubView.{ClientView, PagesView, place_in, asks_of, cap_of, caps_of, frame_in}
+use Rattle.casper_model.specs.Held.{allows}
+use Rattle.casper_model.specs.Shared.{new_shared, of_client}
+use Rattle.casper_turns.proofs.Start.{start_good}
+use Rattle.casper_hub.specs.HubView.{ClientView, PagesView, place_in, asks_of, frame_in}
 use Rattle.casper_hub.specs.HubFields.{hub_of}
-use Rattle.casper_hub.specs.Shows.{Shows, ShowsClient}
-use Rattle.casper_hub.specs.Sound.{IsSound}
+use Rattle.casper_hub.specs.Shows.{permits, Shows, ShowsClient}
+use Rattle.casper_hub.specs.Sound.{IsSound, IsPlain}
+use Rattle.casper_hub.proofs.StandsFor.{stands_for, standing}
+use Rattle.casper_hub.proofs.Supplied.{shows_beside_frames}
 
 -- of places that are all absent each is
 absent_at : {X : Type 0} (count who : ℕ) → get_or (replicate {A = Option X} count None) who None ≡ None
@@ -26,50 +28,44 @@ absent_at {X} count who =
 pub nobody_live : (places : List (Option ClientView)) → places ≡ replicate 33 None → (who : ℕ) → place_in places who ≡ None
 nobody_live places are who = ap (λ (l : List (Option ClientView)). place_in l who) are ∙ absent_at 33 who
 
--- and nothing is promised
-caps_absent : (count : ℕ) → caps_of (replicate count None) ≡ 0
-caps_absent zero = refl
-caps_absent (suc count) = sum_by-cons cap_of None (replicate count None) ∙ ap (λ n. 0 + n) (caps_absent count)
+module _ (count limit : ℕ) (trail : List Item) (places : List (Option ClientView)) (pages : PagesView) (empty : trail ≡ []) (are : places ≡ replicate 33 None)
+    (long : length pages.rights ≡ count) (free : (client page : ℕ) → right_at pages.rights client page ≡ None) where
+  -- the hub of a session that begins stands for the machine as a session begins
+  pub shows_new : Shows (new_shared count limit) (hub_of trail limit places pages)
+  shows_new = record {
+    trail = sym empty;
+    limit = refl;
+    pages = sym long;
+    places = length-replicate {A = Option Client} 33 None;
+    stabilisations = refl;
+    clients = λ who.
+        subst (λ (place : Option Client). ShowsClient trail place (place_in places who)) (sym (absent_at 33 who))
+        (subst (λ (shown : Option ClientView). ShowsClient trail None shown) (sym (nobody_live places are who)) tt);
+    rights = λ who page right.
+        ap (λ (place : Option Client). allows (of_client [] (λ client. client.rights) place) page right) (absent_at 33 who)
+        ∙ ap (λ one. permits one right) (sym (free who page));
+  }
 
--- the hub of a session that begins is sound
-pub sound_new : (count limit : ℕ) (trail : List Item) (places : List (Option ClientView)) (pages : PagesView) → trail ≡ [] → places ≡ replicate 33 None → length pages.rights ≡ count
-    → ((client page : ℕ) → right_at pages.rights client page ≡ None) → AreAllClients pages.rights → pages.frames ≡ replicate count None → count < 2 ^ 32 → limit < 2 ^ 32
-    → IsSound (hub_of trail limit places pages)
-sound_new count limit trail places pages empty are long free holders frames short fits = record {
-  places = ap length are ∙ length-replicate {A = Option ClientView} 33 None;
-  nobody = nobody_live places are 0;
-  holders = holders;
-  frames = ap length frames ∙ length-replicate {A = Option (List ℕ)} count None ∙ sym long;
-  short = subst (λ n. n < 2 ^ 32) (sym long) short;
-  within =
-      let entries : entry_count trail ≡ 0 = ap entry_count empty in
-      let caps : caps_of places ≡ 0 = ap caps_of are ∙ caps_absent 33 in
-      omega (arith, entries, caps);
-  fits = fits;
-  absent = λ who page gone. free who page;
-  framed = λ who page is. absurd (true≢false (ap is_some (sym is ∙ free who page)));
-  asked = λ who ask inside.
-      let none : asks_of (place_in places who) ≡ [] = ap asks_of (nobody_live places are who) in
-      let among : Contains [] ask = subst (λ (l : List Want). Contains l ask) none inside in
-      absurd (omega (arith, among.1));
-  marked = λ who fallen fell. absurd (true≢false (ap is_some (sym fell ∙ ap (λ (o : Option ClientView). option_and_then (λ (client : ClientView). client.fallen) o) (nobody_live places are who))));
-  quiet = refl;
-  up = λ who client is. absurd (true≢false (ap is_some (sym is ∙ nobody_live places are who)));
-}
+  -- and is sound
+  pub sound_new : AreAllClients pages.rights → pages.frames ≡ replicate count None → count < 2 ^ 32 → limit < 2 ^ 32 → IsSound (hub_of trail limit places pages)
+  sound_new holders frames short fits = record {
+    formed = record {
+      places = ap length are ∙ length-replicate {A = Option ClientView} 33 None;
+      holders = holders;
+      frames = ap length frames ∙ length-replicate {A = Option (List ℕ)} count None ∙ sym long;
+      short = subst (λ n. n < 2 ^ 32) (sym long) short;
+      fits = fits;
+      framed = λ who page is. absurd (true≢false (ap is_some (sym is ∙ free who page)));
+      asked = λ who ask inside.
+          let none : asks_of (place_in places who) ≡ [] = ap asks_of (nobody_live places are who) in
+          let among : Contains [] ask = subst (λ (l : List Want). Contains l ask) none inside in
+          absurd (omega (arith, among.1));
+    };
+    stands = standing (hub_of trail limit places pages) (record { shared = new_shared count limit; shows = shows_new; good = start_good count limit });
+  }
 
--- and stands for the machine as a session begins
-pub shows_new : (count limit : ℕ) (trail : List Item) (places : List (Option ClientView)) (pages : PagesView) → trail ≡ [] → places ≡ replicate 33 None → length pages.rights ≡ count
-    → Shows (new_shared count limit) (hub_of trail limit places pages)
-shows_new count limit trail places pages empty are long = record {
-  trail = sym empty;
-  limit = refl;
-  pages = sym long;
-  places = length-replicate {A = Option Client} 33 None;
-  stabilisations = refl;
-  clients = λ who.
-      subst (λ (place : Option Client). ShowsClient trail pages.rights who place (place_in places who)) (sym (absent_at 33 who))
-      (subst (λ (shown : Option ClientView). ShowsClient trail pages.rights who None shown) (sym (nobody_live places are who)) tt);
-}
+  pub plain_new : IsPlain (hub_of trail limit places pages)
+  plain_new = record { quiet = refl; up = λ who client is. absurd (true≢false (ap is_some (sym is ∙ nobody_live places are who))) }
 
 -- a frame that the server has stays as another is supplied
 frame_stays : (frames : List (Option (List ℕ))) (page : ℕ) (frame : List ℕ) (other : ℕ) → IsSome (get_or frames other None)
@@ -89,19 +85,21 @@ frames_supplied frames page frame =
 pub sound_supplied : (trail : List Item) (limit : ℕ) (places : List (Option ClientView)) (pages after : PagesView) (page : ℕ) (frame : List ℕ) → IsSound (hub_of trail limit places pages)
     → after.rights ≡ pages.rights → after.frames ≡ cond (is_some (frame_in pages page)) pages.frames (set pages.frames page (Some frame)) → IsSound (hub_of trail limit places after)
 sound_supplied trail limit places pages after page frame sound rights frames = record {
-  places = sound.places;
-  nobody = sound.nobody;
-  holders = subst AreAllClients (sym rights) sound.holders;
-  frames = ap length frames ∙ frames_supplied pages.frames page frame ∙ sound.frames ∙ sym (ap length rights);
-  short = subst (λ n. n < 2 ^ 32) (sym (ap length rights)) sound.short;
-  within = sound.within;
-  fits = sound.fits;
-  absent = λ who other gone. ap (λ r. right_at r who other) rights ∙ sound.absent who other gone;
-  framed = λ who other is.
-      subst (λ (l : List (Option (List ℕ))). IsSome (get_or l other None)) (sym frames)
-      (frame_stays pages.frames page frame other (sound.framed who other (ap (λ r. right_at r who other) (sym rights) ∙ is)));
-  asked = λ who ask inside. subst (λ n. ask.page < n) (sym (ap length rights)) (sound.asked who ask inside);
-  marked = sound.marked;
-  quiet = refl;
-  up = sound.up;
+  formed = record {
+    places = sound.formed.places;
+    holders = subst AreAllClients (sym rights) sound.formed.holders;
+    frames = ap length frames ∙ frames_supplied pages.frames page frame ∙ sound.formed.frames ∙ sym (ap length rights);
+    short = subst (λ n. n < 2 ^ 32) (sym (ap length rights)) sound.formed.short;
+    fits = sound.formed.fits;
+    framed = λ who other is.
+        subst (λ (l : List (Option (List ℕ))). IsSome (get_or l other None)) (sym frames)
+        (frame_stays pages.frames page frame other (sound.formed.framed who other (ap (λ r. right_at r who other) (sym rights) ∙ is)));
+    asked = λ who ask inside. subst (λ n. ask.page < n) (sym (ap length rights)) (sound.formed.asked who ask inside);
+  };
+  stands = standing (hub_of trail limit places after) (record {
+    shared = (stands_for (hub_of trail limit places pages) sound.stands).shared;
+    shows = shows_beside_frames (stands_for (hub_of trail limit places pages) sound.stands).shared (hub_of trail limit places pages) (hub_of trail limit places after) (stands_for (hub_of trail limit places pages) sound.stands).shows
+        (ap (λ r. hub_of trail limit places (record { rights = r; frames = after.frames })) rights);
+    good = (stands_for (hub_of trail limit places pages) sound.stands).good;
+  });
 }

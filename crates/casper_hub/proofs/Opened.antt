@@ -1,10 +1,8 @@
-use Rattle.std.proofs.Common.{◌≡◌, ◌≢◌, ◌<◌, ◌≤◌, ℕ, suc, ◌+◌, ◌-◌, ◌∙◌, List, [], ◌∷◌, ◌++◌, true, false, ◌&&◌, ◌==◌, fold, length, set, get_or-set_same, filter_map, refl, sym, ap, subst, true≢false, Contains, arith}
+use Rattle.std.proofs.Common.{◌≡◌, ◌≢◌, ◌<◌, ◌≤◌, ℕ, suc, ◌∙◌, List, [], ◌∷◌, ◌++◌, true, false, ◌&&◌, ◌==◌, fold, length, get_or-set_same, filter_map, refl, sym, ap, subst, true≢false, Contains, arith}
 use Rattle.std.specs.Prelude.{Option, None, Some, IsSome, is_some, option_map, option_and_then, MatchOption, min}
 use Rattle.std.specs.List.{cons_option}
 use Rattle.std.proofs.Math.Nat.{min-le_right}
 use Rattle.std.proofs.lemmas.Bool.{false_from_ne_true, and_parts, eqb-true}
-use Rattle.std.proofs.lemmas.List.{length-map}
-use Rattle.std.proofs.lemmas.List.Sums.{sum_by-set}
 use Rattle.casper_words.specs.declared.call.Op.{Op}
 use Rattle.casper_words.specs.declared.call.Op.TheVariants as op
 use Rattle.casper_words.specs.declared.call.Call.{Call}
@@ -12,36 +10,31 @@ use Rattle.casper_words.specs.declared.page.Right.{Right}
 use Rattle.casper_words.specs.declared.page.Right.TheVariants as may
 use Rattle.casper_words.specs.declared.page.Want.{Want}
 use Rattle.casper_trail.specs.declared.entry.Entry.{Entry}
-use Rattle.casper_trail.specs.TrailView.{entry_count}
 use Rattle.casper_trail.specs.Value.{value_of, value_after, writes_page, is_write}
 use Rattle.casper_trail.specs.Parts.{as_items, live_entries}
-use Rattle.casper_trail.specs.Calls.{entry_by, entries_by}
+use Rattle.casper_trail.specs.Calls.{entries_by}
 use Rattle.casper_trail.proofs.Parts.{live_of_more_entries}
-use Rattle.casper_trail.proofs.CallLists.{calls_of_another, count_of_more_entries}
 use Rattle.casper_dir.specs.Rights.{right_at, writer_at}
 use Rattle.casper_dir.proofs.EqualRights.{writer_holds_to_write}
 use Rattle.casper_cache.specs.declared.held.Held.{Held}
 use Rattle.casper_cache.specs.Holding.{entry_of, right_of, ArePagesDistinct}
 use Rattle.casper_cache.specs.Own as cache
 use Rattle.casper_cache.proofs.Entries.{entry_of-page}
-use Rattle.casper_model.specs.Room.{most_cap}
 use Rattle.casper_model.specs.LegalHistory.{right_for}
 use Rattle.casper_model.proofs.Entries.{contains_entry}
-use Rattle.casper_hub.specs.HubView.{HubView, ClientView, PagesView, client_in, cap_in, cap_of, caps_of, asks_of, fallen_in, is_live, free_in, with_cap, frame_in, items_behind}
+use Rattle.casper_hub.specs.HubView.{HubView, ClientView, PagesView, client_in, cap_in, cap_of, asks_of, fallen_in, is_live, free_in, with_cap, frame_in, items_behind}
 use Rattle.casper_hub.specs.Words.{live_value, stored_value, seen_value, AreWords, ServerIsRight, HeldIsRight, FramesAreRight, CacheIsRight}
 use Rattle.casper_hub.specs.Shows.{permits}
-use Rattle.casper_hub.specs.Sound.{IsSound}
-use Rattle.casper_hub.specs.Owned.{Owns}
 use Rattle.casper_hub.specs.Given.{Covers, GivesUp, Falls, left_of, kept_as, topped}
 use Rattle.casper_hub.specs.Stages.{Opens}
-use Rattle.casper_hub.specs.Apart.{Apart}
-use Rattle.casper_hub.specs.Still.{Still}
+use Rattle.casper_hub.specs.Sound.{IsWellFormed, IsPlain}
+use Rattle.casper_hub.proofs.Whole.{Whole, Owning, nobody_fell, fallen_of_place}
+use Rattle.casper_hub.proofs.ServedTurns.{opened_whole}
 use Rattle.casper_hub.proofs.Showing.{allows_right}
-use Rattle.casper_hub.proofs.Standing.{nobody_fell}
 use Rattle.casper_hub.proofs.Left.{entry_of-kept, distinct-kept}
 use Rattle.casper_hub.proofs.Giving.{writes_before, held_right_kept}
 use Rattle.casper_hub.proofs.Relying.{seen_plain, same_held, same_words}
-use Rattle.casper_hub.proofs.Changing.{nobody_beside, same_rights, live_elsewhere, stored_stays, sound_changed, apart_changed, still_changed}
+use Rattle.casper_hub.proofs.Changing.{IsPlainPlace, live_elsewhere, stored_stays, formed_changed, plain_changed}
 
 -- each of these calls that writes is on a page that its client may write
 abbrev pub WritesAreHeld : ℕ → PagesView → List Call → Type 0
@@ -50,7 +43,7 @@ WritesAreHeld who pages calls = (call : Call) → Contains calls call → is_wri
 -- what a turn finds as it opens: a sound hub, where the client is live with the cap of its cache, and a cache that covers its rights and
 -- has room for its pending calls, whose writes have their rights
 pub record Begins (who : ℕ) (hub : HubView) (own : cache.Own) : Type 0 where
-  pub sound : IsSound hub
+  pub sound : Whole hub
   pub live : is_live hub who ≡ true
   pub cap : cap_in hub who ≡ own.cap
   pub client : own.client ≡ who
@@ -65,7 +58,7 @@ writes_permitted (Some may.Read) is = absurd (true≢false (sym is))
 writes_permitted (Some may.Write) is = refl
 
 -- what a client owns covers its rights
-pub covers_owned : (hub : HubView) (own : cache.Own) → IsSound hub → Owns hub own → Covers own.client hub.pages own.held
+pub covers_owned : (hub : HubView) (own : cache.Own) → Whole hub → Owning hub own → Covers own.client hub.pages own.held
 covers_owned hub own sound owns = record {
   client = owns.client;
   holders = sound.holders;
@@ -76,7 +69,7 @@ covers_owned hub own sound owns = record {
 }
 
 -- and its pending writes have their rights
-pub writes_owned : (hub : HubView) (own : cache.Own) → IsSound hub → Owns hub own → WritesAreHeld own.client hub.pages own.pending
+pub writes_owned : (hub : HubView) (own : cache.Own) → Whole hub → Owning hub own → WritesAreHeld own.client hub.pages own.pending
 writes_owned hub own sound owns call inside writes =
     let up : fallen_in hub own.client ≡ None = nobody_fell hub own.client sound in
     owns.rights up call.page
@@ -88,7 +81,7 @@ writes_owned hub own sound owns call inside writes =
     needs op.Write e = refl
     needs op.Touch e = absurd (true≢false (sym e))
 
-pub begins_owned : (hub : HubView) (own : cache.Own) → IsSound hub → Owns hub own → Begins own.client hub own
+pub begins_owned : (hub : HubView) (own : cache.Own) → Whole hub → Owning hub own → Begins own.client hub own
 begins_owned hub own sound owns = record {
   sound = sound;
   live = owns.live;
@@ -112,56 +105,43 @@ pub asks_with_cap : (cap : ℕ) (place : Option ClientView) → asks_of (with_ca
 asks_with_cap cap None = refl
 asks_with_cap cap (Some client) = refl
 
--- a client of which no outcome is kept and that has not fallen
-abbrev pub IsPlain : Option ClientView → Type 0
-IsPlain place = (client : ClientView) → place ≡ Some client → (client.kept ≡ None) × (client.fallen ≡ None)
-
-pub plain_with_cap : (cap : ℕ) (place : Option ClientView) → IsPlain place → IsPlain (with_cap cap place)
+pub plain_with_cap : (cap : ℕ) (place : Option ClientView) → IsPlainPlace place → IsPlainPlace (with_cap cap place)
 plain_with_cap cap None plain client e = cc
 plain_with_cap cap (Some shown) plain client e =
     let same : record shown { cap = cap } ≡ client = cc in
     subst (λ (c : ClientView). (c.kept ≡ None) × (c.fallen ≡ None)) same (plain shown refl)
 
--- a client that is live is not absent
-pub live_is_some : (place : Option ClientView) → is_some place ≡ true → place ≡ None → ⊥
-live_is_some place live none = true≢false (sym live ∙ ap is_some none)
-
 -- what a client keeps for writing is framed
-pub framed_left : (who : ℕ) (hub : HubView) (held held_after : List Held) (after : PagesView) → IsSound hub → GivesUp who hub.pages held after held_after
+pub framed_left : (who : ℕ) (hub : HubView) (held held_after : List Held) (after : PagesView) → Whole hub → GivesUp who hub.pages held after held_after
     → (page : ℕ) → right_at after.rights who page ≡ Some may.Write → IsSome (frame_in after page)
 framed_left who hub held held_after after sound gives page is =
     gives.framed page (sound.framed who page (writes_before (right_at hub.pages.rights who page) (right_at after.rights who page) (gives.falls page) is))
 
-pub opened_sound : (who : ℕ) (hub : HubView) (own : cache.Own) (after : HubView) (own_after : cache.Own) → Begins who hub own → Opens who hub own after own_after → IsSound after
-opened_sound who hub own after own_after begins opens =
-    subst (λ (h : HubView). IsSound h) (sym opens.hub_is)
-    (sound_changed hub (as_items (entries_by who own.pending)) (hub.trail ++ as_items (entries_by who own.pending)) who place after.pages begins.sound begins.covers.client refl within
-    (plain_with_cap cap (client_in hub who) (begins.sound.up who))
-    (λ ask inside. begins.sound.asked who ask (subst (λ (asks : List Want). Contains asks ask) (asks_with_cap cap (client_in hub who)) inside))
-    opens.gives.rights_count opens.gives.frames_count opens.gives.holders
-    (λ none. absurd (live_is_some place (live_with_cap cap (client_in hub who) ∙ begins.live) none))
-    opens.gives.others (framed_left who hub own.held own_after.held after.pages begins.sound opens.gives) opens.gives.framed)
-  where
-    cap : ℕ
-    cap = topped own (free_in hub)
+-- once a turn has opened the parts of the hub fit together, and no client has fallen
+module _ (who : ℕ) (hub : HubView) (own : cache.Own) (after : HubView) (own_after : cache.Own) (begins : Begins who hub own) (opens : Opens who hub own after own_after) where
+  abbrev opened_place : Option ClientView
+  opened_place = with_cap (topped own (free_in hub)) (client_in hub who)
 
-    place : Option ClientView
-    place = with_cap cap (client_in hub who)
+  pub opened_formed : IsWellFormed after
+  opened_formed =
+      subst IsWellFormed (sym opens.hub_is)
+      (formed_changed hub (hub.trail ++ as_items (entries_by who own.pending)) who opened_place after.pages begins.sound.sound.formed begins.covers.client
+      (λ ask inside. begins.sound.asked who ask (subst (λ (asks : List Want). Contains asks ask) (asks_with_cap (topped own (free_in hub)) (client_in hub who)) inside))
+      opens.gives.rights_count opens.gives.frames_count opens.gives.holders opens.gives.others
+      (framed_left who hub own.held own_after.held after.pages begins.sound opens.gives) opens.gives.framed)
 
-    within : entry_count (hub.trail ++ as_items (entries_by who own.pending)) + caps_of (set hub.clients who place) ≤ hub.limit
-    within =
-        let most = begins.covers.client.1 in
-        let long = begins.sound.places in
-        let below : who < length hub.clients = omega arith in
-        let caps : caps_of (set hub.clients who place) + cap_in hub who ≡ caps_of hub.clients + cap_of place = sum_by-set cap_of hub.clients who place None below in
-        let count : entry_count (hub.trail ++ as_items (entries_by who own.pending)) ≡ entry_count hub.trail + length own.pending =
-        count_of_more_entries hub.trail (entries_by who own.pending) ∙ ap (λ n. entry_count hub.trail + n) (length-map own.pending (entry_by who)) in
-        let had : cap_in hub who ≡ own.cap = begins.cap in
-        let now : cap_of place ≡ cap = cap_of_with cap (client_in hub who) begins.live in
-        let low : cap ≤ own.cap - length own.pending + free_in hub = min-le_right most_cap (own.cap - length own.pending + free_in hub) in
-        let room : length own.pending ≤ own.cap = begins.room in
-        let before : entry_count hub.trail + caps_of hub.clients ≤ hub.limit = begins.sound.within in
-        omega (arith, caps, count, had, now, low, room, before)
+  pub opened_plain : IsPlain after
+  opened_plain =
+      subst IsPlain (sym opens.hub_is)
+      (plain_changed hub (hub.trail ++ as_items (entries_by who own.pending)) who opened_place after.pages begins.sound.plain begins.sound.places begins.covers.client
+      (plain_with_cap (topped own (free_in hub)) (client_in hub who) (begins.sound.up who)))
+
+-- so the hub is sound
+pub opened_sound : (hub : HubView) (own : cache.Own) (held : List Held) (after : HubView) (own_after : cache.Own) → Begins own.client hub (record own { held = held })
+    → Owning hub own → Opens own.client hub (record own { held = held }) after own_after → Whole after
+opened_sound hub own held after own_after begins owns opens =
+    opened_whole hub own held after own_after begins.sound owns opens
+    (opened_formed own.client hub (record own { held = held }) after own_after begins opens) (opened_plain own.client hub (record own { held = held }) after own_after begins opens)
 
 -- the pending writes are on no page that their client may not write
 pub unwritten : (who : ℕ) (pages : PagesView) (calls : List Call) (page : ℕ) → WritesAreHeld who pages calls → right_at pages.rights who page ≢ Some may.Write
@@ -177,10 +157,6 @@ unwritten who pages calls page held never entry inside =
 -- a page that nobody holds for writing this client does not
 pub no_writer_no_right : (pages : PagesView) (page who : ℕ) → writer_at pages.rights page ≡ None → right_at pages.rights who page ≢ Some may.Write
 no_writer_no_right pages page who none writes = let found = (writer_holds_to_write pages.rights page who).1 writes in cc
-
--- nor one to which another has a right
-pub other_no_right : (pages : PagesView) (page who other : ℕ) → other ≢ who → IsSome (right_at pages.rights other page) → right_at pages.rights who page ≢ Some may.Write
-other_no_right pages page who other differ held writes = true≢false (sym held ∙ ap is_some (nobody_beside pages.rights page who other writes differ))
 
 -- frames that are right for some values are right for others that are the same where nobody writes
 pub same_server : (value stored value_too stored_too : ℕ → ℕ → ℕ) (pages : PagesView)
@@ -203,10 +179,10 @@ opened_seen base who hub own after own_after begins opens page word =
     ∙ sym (ap (λ fell. value_of base (live_entries (items_behind hub.trail fell) ++ entries_by own.client own.pending) page word) (nobody_fell hub own.client begins.sound))
 
 -- without pending calls a client sees the live entries
-pub seen_without_calls : (base : List (List ℕ)) (hub : HubView) (own : cache.Own) → IsSound hub → own.pending ≡ []
+pub seen_without_calls : (base : List (List ℕ)) (hub : HubView) (own : cache.Own) → IsPlain hub → own.pending ≡ []
     → (page word : ℕ) → seen_value base hub own page word ≡ live_value base hub page word
-seen_without_calls base hub own sound none page word =
-    seen_plain base hub own page word (nobody_fell hub own.client sound)
+seen_without_calls base hub own plain none page word =
+    seen_plain base hub own page word (fallen_of_place (client_in hub own.client) (λ client is. (plain.up own.client client is).1))
     ∙ ap (λ (calls : List Call). fold (value_after page word) (live_value base hub page word) (entries_by own.client calls)) none
 
 pub opened_frames : (base : List (List ℕ)) (who : ℕ) (hub : HubView) (own : cache.Own) (after : HubView) (own_after : cache.Own) → Begins who hub own → Opens who hub own after own_after
@@ -227,27 +203,9 @@ opened_words base who hub own after own_after begins opens words =
     (held_right_kept (seen_value base after own_after) (right_at hub.pages.rights who) (right_at after.pages.rights who) own.held
     (same_held (seen_value base hub own) (seen_value base after own_after) own.held
     (λ page word held.
-    sym (seen_without_calls base after own_after (opened_sound who hub own after own_after begins opens) (ap (λ (o : cache.Own). o.pending) opens.own_is) page word
+    sym (seen_without_calls base after own_after (opened_plain who hub own after own_after begins opens) (ap (λ (o : cache.Own). o.pending) opens.own_is) page word
     ∙ opened_seen base who hub own after own_after begins opens page word))
     words))
-
-pub opened_apart : (who other : ℕ) (hub : HubView) (own : cache.Own) (after : HubView) (own_after : cache.Own) → Begins who hub own → Opens who hub own after own_after → other ≢ who
-    → Apart other hub after
-opened_apart who other hub own after own_after begins opens differ =
-    subst (λ (h : HubView). Apart other hub h) (sym opens.hub_is)
-    (apart_changed hub (as_items (entries_by who own.pending)) (hub.trail ++ as_items (entries_by who own.pending)) who other
-    (with_cap (topped own (free_in hub)) (client_in hub who)) after.pages begins.sound differ refl
-    (calls_of_another hub.trail who other own.pending (λ e. differ (sym e))) opens.gives.rights_count
-    (λ page. same_rights hub.pages.rights after.pages.rights page other begins.sound.holders opens.gives.holders (λ is. opens.gives.others other page is differ))
-    (λ base page word held.
-    live_elsewhere base hub.trail (entries_by who own.pending) page word
-    (unwritten who hub.pages own.pending page begins.writes (other_no_right hub.pages page who other differ held))))
-
-pub opened_still : (who : ℕ) (hub : HubView) (own : cache.Own) (after : HubView) (own_after : cache.Own) → IsSound hub → Opens who hub own after own_after → Still hub after
-opened_still who hub own after own_after sound opens =
-    subst (λ (h : HubView). Still hub h) (sym opens.hub_is)
-    (still_changed hub (entries_by who own.pending) (hub.trail ++ as_items (entries_by who own.pending)) who
-    (with_cap (topped own (free_in hub)) (client_in hub who)) after.pages sound refl)
 
 -- what the server knows of the client once its turn has opened
 pub opened_client : (who : ℕ) (hub : HubView) (own : cache.Own) (after : HubView) (own_after : cache.Own) → Begins who hub own → Opens who hub own after own_after
@@ -263,6 +221,11 @@ opened_client who hub own after own_after begins opens =
 pub opened_live : (who : ℕ) (hub : HubView) (own : cache.Own) (after : HubView) (own_after : cache.Own) → Begins who hub own → Opens who hub own after own_after → is_live after who ≡ true
 opened_live who hub own after own_after begins opens =
     ap is_some (opened_client who hub own after own_after begins opens) ∙ live_with_cap (topped own (free_in hub)) (client_in hub who) ∙ begins.live
+
+pub opened_live_own : (hub : HubView) (own : cache.Own) (after : HubView) (own_after : cache.Own) → Begins own.client hub own → Opens own.client hub own after own_after
+    → is_live after own_after.client ≡ true
+opened_live_own hub own after own_after begins opens =
+    ap (is_live after) (ap (λ (o : cache.Own). o.client) opens.own_is) ∙ opened_live own.client hub own after own_after begins opens
 
 pub opened_cap : (who : ℕ) (hub : HubView) (own : cache.Own) (after : HubView) (own_after : cache.Own) → Begins who hub own → Opens who hub own after own_after
     → cap_in after who ≡ own_after.cap
@@ -298,36 +261,28 @@ length_kept {X} {Y} keep (entry ∷ held) = step (keep entry) (length_kept keep 
     step None rest = omega (arith, rest)
     step (Some left) rest = omega (arith, rest)
 
-pub opened_owns : (hub : HubView) (own : cache.Own) (after : HubView) (own_after : cache.Own) → IsSound hub → Owns hub own → Opens own.client hub own after own_after → Owns after own_after
-opened_owns hub own after own_after sound owns opens =
-    subst (λ (o : cache.Own). Owns after o) (sym opens.own_is) (record {
-      sound = record {
-        distinct = subst (λ (held : List Held). ArePagesDistinct held) (sym gives.held_is) (distinct-kept before left own.held owns.sound.distinct);
-        few = let few = owns.sound.few in let less = fewer in omega (arith, few, less);
-        pending = omega arith;
-        least = owns.sound.least;
-        most = owns.sound.most;
-      };
-      client = owns.client;
-      live = opened_live own.client hub own after own_after begins opens;
-      cap = opened_cap own.client hub own after own_after begins opens ∙ ap (λ (o : cache.Own). o.cap) opens.own_is;
-      few = let few = owns.few in let less = fewer in omega (arith, few, less);
-      rights = λ up page.
-          rights_left before left own.held (owns.rights (nobody_fell hub own.client sound)) gives.falls page ∙ sym (ap (right_of page) gives.held_is);
-      calls = λ up call inside. absurd (omega (arith, inside.1));
-    })
-  where
-    begins : Begins own.client hub own
-    begins = begins_owned hub own sound owns
+-- a cache is sound once its turn has opened, and holds no more
+module _ (hub : HubView) (own : cache.Own) (after : HubView) (own_after : cache.Own) (owns : Owning hub own) (opens : Opens own.client hub own after own_after) where
+  fewer : length own_after.held ≤ length own.held
+  fewer =
+      subst (λ (held : List Held). length held ≤ length own.held) (sym opens.gives.held_is)
+      (length_kept (kept_as (right_at hub.pages.rights own.client) (right_at after.pages.rights own.client)) own.held)
 
-    gives : GivesUp own.client hub.pages own.held after.pages own_after.held
-    gives = opens.gives
+  pub opened_cache : cache.IsSound own_after
+  opened_cache = subst (λ (o : cache.Own). cache.IsSound o) (sym opens.own_is) (record {
+    distinct = subst (λ (held : List Held). ArePagesDistinct held) (sym opens.gives.held_is)
+        (distinct-kept (right_at hub.pages.rights own.client) (right_at after.pages.rights own.client) own.held owns.sound.distinct);
+    few = let few = owns.sound.few in let less = fewer in omega (arith, few, less);
+    pending = omega arith;
+    least = owns.sound.least;
+    most = owns.sound.most;
+  })
 
-    before : ℕ → Option Right
-    before = right_at hub.pages.rights own.client
+  pub opened_few : length own_after.held ≤ own_after.capacity
+  opened_few = let few = owns.few in let less = fewer in let same = ap (λ (o : cache.Own). o.capacity) opens.own_is in omega (arith, few, less, same)
 
-    left : ℕ → Option Right
-    left = right_at after.pages.rights own.client
-
-    fewer : length own_after.held ≤ length own.held
-    fewer = subst (λ (held : List Held). length held ≤ length own.held) (sym gives.held_is) (length_kept (kept_as before left) own.held)
+  -- and its rights are those of its client
+  pub opened_rights : Whole hub → (page : ℕ) → right_at after.pages.rights own.client page ≡ right_of page own_after.held
+  opened_rights sound page =
+      rights_left (right_at hub.pages.rights own.client) (right_at after.pages.rights own.client) own.held (owns.rights (nobody_fell hub own.client sound)) opens.gives.falls page
+      ∙ sym (ap (right_of page) opens.gives.held_is)

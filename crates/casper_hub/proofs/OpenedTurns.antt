@@ -20,11 +20,11 @@ use Rattle.casper_model.proofs.Places.{client_changed, client_unchanged}
 use Rattle.casper_hub.specs.HubView.{HubView, right_in, free_in}
 use Rattle.casper_hub.specs.Asks.{is_asked_for}
 use Rattle.casper_hub.specs.Shows.{Shows}
-use Rattle.casper_hub.specs.Sound.{IsSound}
-use Rattle.casper_hub.specs.Owned.{wants_of, own_of, Owns}
+use Rattle.casper_hub.specs.Owned.{wants_of, own_of}
 use Rattle.casper_hub.specs.Given.{met, right_kept, left_of, kept_as, topped}
-use Rattle.casper_hub.proofs.Showing.{asks_shown, free_shown, caps_shown, fallen_shown}
-use Rattle.casper_hub.proofs.Standing.{nobody_fell, stands, opened_plain, free_recorded}
+use Rattle.casper_hub.proofs.Whole.{Whole, Owning, nobody_fell, fallen_shown, pending_within}
+use Rattle.casper_hub.proofs.Showing.{asks_shown, free_shown, caps_shown}
+use Rattle.casper_hub.proofs.Standing.{stands, opened_plain, free_recorded}
 use Rattle.casper_hub.proofs.KeptPages.{asked_same, HaveRights, have_rights, keeps_wants}
 use Rattle.casper_hub.proofs.Left.{entry_of-kept, distinct-kept}
 
@@ -60,21 +60,18 @@ kept_same before after other same (entry ∷ held) =
     ap₂ (λ one rest. cons_option one rest) (ap (λ o. left_of (before entry.page) o entry) (same entry.page)) (kept_same before after other same held)
 
 -- the rights of what is kept, for a cache that its hub owns
-pub right_kept_held : (hub : HubView) (own : cache.Own) → IsSound hub → Owns hub own → (page : ℕ) → right_of page (kept_held hub own) ≡ right_kept hub.pages hub.clients own.client page
+pub right_kept_held : (hub : HubView) (own : cache.Own) → Whole hub → Owning hub own → (page : ℕ) → right_of page (kept_held hub own) ≡ right_kept hub.pages hub.clients own.client page
 right_kept_held hub own sound owns page =
     right_among_kept (right_in hub own.client) (right_kept hub.pages hub.clients own.client)
     (is_asked_for is_to_write hub.clients own.client) (is_asked_for any_right hub.clients own.client) page own.held
     (owns.rights (nobody_fell hub own.client sound) page) refl
 
-pub distinct_kept_held : (hub : HubView) (own : cache.Own) → Owns hub own → ArePagesDistinct (kept_held hub own)
+pub distinct_kept_held : (hub : HubView) (own : cache.Own) → Owning hub own → ArePagesDistinct (kept_held hub own)
 distinct_kept_held hub own owns = distinct-kept (right_in hub own.client) (right_kept hub.pages hub.clients own.client) own.held owns.sound.distinct
 
-pub have_rights_held : (hub : HubView) (own : cache.Own) → IsSound hub → Owns hub own → HaveRights (right_in hub own.client) own.held
+pub have_rights_held : (hub : HubView) (own : cache.Own) → Whole hub → Owning hub own → HaveRights (right_in hub own.client) own.held
 have_rights_held hub own sound owns =
     have_rights (right_in hub own.client) own.held owns.sound.distinct (λ page right is. owns.rights (nobody_fell hub own.client sound) page ∙ is)
-
-pending_within : (own : cache.Own) → cache.IsSound own → length own.pending ≤ own.cap
-pending_within own sound = omega (arith, sound.pending)
 
 -- the asks of the others, once the machine's turn has begun
 pub asks_begun : (shared : Shared) (own : Own) (other : ℕ) → asks_at (begun shared own).shared other ≡ asks_at shared other
@@ -114,7 +111,7 @@ asks_begun shared own other =
         of_asks (Some a) (Some b) e = cc
 
 -- the acting client's own part after the machine's opening
-pub own_opened : (shared : Shared) (hub : HubView) (own : cache.Own) → Shows shared hub → IsSound hub → Owns hub own
+pub own_opened : (shared : Shared) (hub : HubView) (own : cache.Own) → Shows shared hub → Whole hub → Owning hub own
     → (opened shared (own_of own)).own ≡ record (own_of own) { cap = topped own (free_in hub); held = wants_of (kept_held hub own); pending = [] }
 own_opened shared hub own shows sound owns =
     ap (λ (both : Both). both.own) (opened_plain shared (own_of own) (shows.stabilisations ∙ sound.quiet))
@@ -125,8 +122,8 @@ own_opened shared hub own shows sound owns =
         ap (λ free. min most_cap (own.cap - length own.pending + free))
         (free_recorded shared (own_of own) (stands shared hub own shows sound owns) (fallen_shown shared hub shows sound own.client) (pending_within own owns.sound)
         (subst (λ limit. entry_count shared.trail + all_caps shared ≤ limit) (sym shows.limit)
-        (omega (arith, ap entry_count shows.trail, caps_shown shared hub shows sound, sound.within)))
-        ∙ free_shown shared hub shows sound)
+        (omega (arith, ap entry_count shows.trail, caps_shown shared hub shows sound.places, sound.within)))
+        ∙ free_shown shared hub shows sound.places)
 
     held : filter_map (kept_of (begun shared (own_of own)).shared own.client) (wants_of own.held) ≡ wants_of (kept_held hub own)
     held =

@@ -20,15 +20,15 @@ use Rattle.casper_hub.specs.HubView.{HubView, PagesView, ClientView, frame_in}
 use Rattle.casper_trail.specs.declared.item.Item.{Item}
 use Rattle.casper_hub.specs.HubFields.{hub_of}
 use Rattle.casper_hub.specs.Shows.{permits}
-use Rattle.casper_hub.specs.Sound.{IsSound}
-use Rattle.casper_hub.specs.Owned.{Owns}
 use Rattle.casper_hub.specs.Asks.{asks_for, is_asked_for}
 use Rattle.casper_model.specs.Held.{is_to_write}
 use Rattle.casper_hub.specs.Given.{Covers, right_kept, kept_as, left_of}
 use Rattle.casper_hub.specs.Deciding.{is_missing, is_given, stands_in_the_way}
 use Rattle.casper_hub.specs.Installing.{with_page, with_pages, raised_for, all_raised, all_granted, all_fronted}
 use Rattle.casper_hub.specs.Stages.{Opens, CanGrant}
-use Rattle.casper_hub.proofs.Standing.{nobody_fell}
+use Rattle.casper_hub.specs.Owned.{Owns}
+use Rattle.casper_hub.specs.Sound.{IsSound, IsPlain}
+use Rattle.casper_hub.proofs.Whole.{Whole, Owning, whole, owning, nobody_fell}
 use Rattle.casper_hub.proofs.Giving.{covers_after}
 use Rattle.casper_hub.proofs.Left.{entry_of-kept}
 use Rattle.casper_hub.proofs.Installing.{length_with_page, with_page_held, with_page_same, right_of-raised, conflicts_kept, right_there}
@@ -40,8 +40,8 @@ use Rattle.casper_hub.proofs.MissingStays.{missing_stays, empty_crew}
 -- What stands once the missing pages of an acquire that can be granted are installed and its turn has opened.
 
 pub record Ready (hub : HubView) (own : cache.Own) (wants missing : List Want) (opened : HubView) (opened_own : cache.Own) : Type 0 where
-  pub sound : IsSound hub
-  pub owns : Owns hub own
+  pub sound : Whole hub
+  pub owns : Owning hub own
   pub can : CanGrant own.client hub own wants missing
   pub opens : Opens own.client hub (record own { held = with_pages hub.pages own.held missing }) opened opened_own
 
@@ -217,12 +217,12 @@ covers_given hub own wants missing opened opened_own granted ready gives = recor
 
 -- a turn is ready as the server has installed and opened it
 pub ready_for : (who limit : ℕ) (view : HubView) (own installed opened_own : cache.Own) (wants missing listed : List Want) (items trail : List Item) (places : List (Option ClientView)) (pages : PagesView) (opened : HubView)
-    → hub_of trail limit places pages ≡ view → own.client ≡ who → IsSound (hub_of trail limit places pages) → Owns view own → CanGrant who view own wants missing
+    → hub_of trail limit places pages ≡ view → own.client ≡ who → IsSound (hub_of trail limit places pages) → IsPlain (hub_of trail limit places pages) → Owns view own → CanGrant who view own wants missing
     → listed ≡ missing → items ≡ trail → installed ≡ record own { held = with_pages pages own.held listed }
     → Opens who (hub_of items limit places pages) installed opened opened_own → Ready (hub_of trail limit places pages) own wants listed opened opened_own
-ready_for who limit view own installed opened_own wants missing listed items trail places pages opened view_is is sound owns can same items_are installed_is opens = record {
-  sound = sound;
-  owns = subst (λ (h : HubView). Owns h own) (sym view_is) owns;
+ready_for who limit view own installed opened_own wants missing listed items trail places pages opened view_is is sound plain owns can same items_are installed_is opens = record {
+  sound = whole (hub_of trail limit places pages) sound plain;
+  owns = owning (hub_of trail limit places pages) own sound (subst (λ (h : HubView). Owns h own) (sym view_is) owns);
   can = subst (λ (l : List Want). CanGrant own.client (hub_of trail limit places pages) own wants l) (sym same)
       (subst (λ (w : ℕ). CanGrant w (hub_of trail limit places pages) own wants missing) (sym is) (subst (λ (h : HubView). CanGrant who h own wants missing) (sym view_is) can));
   opens = subst (λ (w : ℕ). Opens w (hub_of trail limit places pages) (record own { held = with_pages pages own.held listed }) opened opened_own) (sym is)

@@ -1,98 +1,98 @@
-use Rattle.std.proofs.Common.{◌≡◌, ◌≤◌, ℕ, ◌+◌, List, [], ◌++◌, fold, length, refl, sym, ap, ◌∙◌, subst, append_assoc, append-nil, arith}
-use Rattle.std.proofs.lemmas.List.{length-append}
-use Rattle.std.specs.Prelude.{Option, None, Some, IsSome, is_some, option_map, IfSome}
-use Rattle.std.proofs.Common.{true≢false}
+use Rattle.std.proofs.Common.{◌≡◌, ℕ, List, fold, refl, sym, ap, ◌∙◌, true}
+use Rattle.std.specs.Prelude.{Option, None, Some, IsSome, option_map, IfSome}
+use Rattle.casper_words.specs.declared.page.Right.{Right}
+use Rattle.casper_words.specs.declared.page.Right.TheVariants as may
 use Rattle.casper_trail.specs.Value.{value_of, value_after}
 use Rattle.casper_trail.specs.Parts.{live_entries}
 use Rattle.casper_trail.specs.Calls.{entries_by}
+use Rattle.casper_trail.specs.Image.{image_of}
 use Rattle.casper_trail.proofs.Values.{value_of_more}
 use Rattle.casper_cache.specs.declared.held.Held.{Held}
 use Rattle.casper_cache.specs.Holding.{entry_of, right_of}
 use Rattle.casper_cache.specs.Own as cache
-use Rattle.casper_hub.specs.HubView.{HubView, FallenView, fallen_in, right_in, items_behind, items_seen}
-use Rattle.casper_hub.specs.Words.{live_value, seen_value, recorded_value, AreWords, HeldIsRight}
-use Rattle.casper_hub.specs.Apart.{Apart}
-use Rattle.casper_hub.specs.Relying.{ApartItself, ApartAgain, StillItself, StillAgain, OwnsWhileApart, RightWhileApart}
+use Rattle.casper_model.specs.Client.{Fallen}
+use Rattle.casper_model.specs.Shared.{Shared, client_at, fallen_at}
+use Rattle.casper_model.specs.View.{seen_by}
+use Rattle.casper_turns.specs.KeepsClient.{KeepsClient}
+use Rattle.casper_turns.specs.Good.{IsGoodWith}
+use Rattle.casper_turns.specs.CommitsNothing.{CommitsNothing}
+use Rattle.casper_turns.proofs.Compose.{apart_itself, apart_again, still_itself, still_again, good_with_while_apart, known_by_agreement}
+use Rattle.casper_turns.proofs.StillImages.{image_while_still}
+use Rattle.casper_hub.specs.GoesOn.{ComesFrom, GoesOn}
+use Rattle.casper_hub.specs.HubView.{HubView, fallen_in, items_behind, items_seen}
+use Rattle.casper_hub.specs.Owned.{own_of}
+use Rattle.casper_hub.specs.Relying.{KeptItself, KeptAgain, CommitsNothingItself, CommitsNothingAgain, ImageStands, LiveWhileKept, PagesWhileKept, OwnsWhileKept, RightWhileKept}
+use Rattle.casper_hub.specs.Shows.{permits, Shows}
+use Rattle.casper_hub.specs.Sound.{IsSound}
+use Rattle.casper_hub.specs.Words.{live_value, seen_value, AreWords, HeldIsRight}
+use Rattle.casper_hub.proofs.StandsFor.{stands_for, goes_from, going, good_with, good_with_each}
+use Rattle.casper_hub.proofs.Showing.{allows_right, liveness_shown, seen_shown}
+use Rattle.casper_hub.proofs.Transport.{good_too}
 
-pub apart_itself : ApartItself
-apart_itself who hub = record {
-  more = [];
-  trail = sym (append-nil hub.trail);
-  limit = refl;
-  pages = refl;
-  calls = refl;
-  live = refl;
-  cap = refl;
-  lost = λ fallen fell. fell;
-  falls = λ fallen up fell. absurd (true≢false (sym (ap is_some (sym up ∙ fell))));
-  asks = λ up. refl;
-  rights = λ up page. refl;
-  seen = λ fallen fell. refl;
-  words = λ base page word held. refl;
-}
+-- what each shared part has with itself, a hub that stays has
+pub goes_nowhere : (between : Shared → Shared → Type 0) → ((shared : Shared) → between shared shared) → (hub : HubView) → GoesOn between hub hub
+goes_nowhere between itself hub = going between hub hub (λ shared shows good. record { next = shared; shows = shows; good = good; comes = itself shared })
 
--- a client that has not fallen had not fallen before
-still_up : (who : ℕ) (second third : HubView) → Apart who second third → fallen_in third who ≡ None → (fell : Option FallenView) → fallen_in second who ≡ fell → fallen_in second who ≡ None
-still_up who second third apart up None is = is
-still_up who second third apart up (Some fallen) is = absurd (true≢false (ap is_some (sym (apart.lost fallen is) ∙ up)))
+-- and so has a hub after another that stands for the same
+pub goes_same : (between : Shared → Shared → Type 0) → ((shared : Shared) → between shared shared) → (hub after : HubView)
+    → ((shared : Shared) → Shows shared hub → Shows shared after) → GoesOn between hub after
+goes_same between itself hub after same =
+    going between hub after (λ shared shows good. record { next = shared; shows = same shared shows; good = good; comes = itself shared })
 
-pub apart_again : ApartAgain
-apart_again who first second third one two = record {
-  more = one.more ++ two.more;
-  trail = two.trail ∙ ap (λ trail. trail ++ two.more) one.trail ∙ append_assoc first.trail one.more two.more;
-  limit = two.limit ∙ one.limit;
-  pages = two.pages ∙ one.pages;
-  calls = two.calls ∙ one.calls;
-  live = two.live ∙ one.live;
-  cap = two.cap ∙ one.cap;
-  lost = λ fallen fell. two.lost fallen (one.lost fallen fell);
-  falls = λ fallen up fell. fell_between fallen up fell (fallen_in second who) refl;
-  asks = λ up. two.asks up ∙ one.asks (before up);
-  rights = λ up page. two.rights up page ∙ one.rights (before up) page;
-  seen = λ fallen fell. two.seen fallen (one.lost fallen fell) ∙ one.seen fallen fell;
-  words = λ base page word held. meanwhile (fallen_in second who) refl base page word held ∙ one.words base page word held;
-}
-  where
-    some_same : (before after : FallenView) → Some before ≡ Some after → before ≡ after
-    some_same before after same = cc
+goes_again : (between : Shared → Shared → Type 0) → ((one two three : Shared) → between one two → between two three → between one three)
+    → (first second third : HubView) → GoesOn between first second → GoesOn between second third → GoesOn between first third
+goes_again between again first second third one two =
+    going between first third
+    (λ shared shows good.
+    let middle = goes_from between first second one shared shows good in
+    let last = goes_from between second third two middle.next middle.shows middle.good in
+    record { next = last.next; shows = last.shows; good = last.good; comes = again shared middle.next last.next middle.comes last.comes })
 
-    fell_between : (fallen : FallenView) → fallen_in first who ≡ None → fallen_in third who ≡ Some fallen → (fell : Option FallenView) → fallen_in second who ≡ fell
-        → length first.trail ≤ fallen.mark
-    fell_between fallen up fell None is =
-        let behind : length second.trail ≤ fallen.mark = two.falls fallen is fell in
-        let long : length second.trail ≡ length first.trail + length one.more = ap length one.trail ∙ length-append first.trail one.more in
-        omega (arith, behind, long)
-    fell_between fallen up fell (Some before) is =
-        let same : before ≡ fallen = some_same before fallen (sym (two.lost before is) ∙ fell) in
-        subst (λ (one : FallenView). length first.trail ≤ one.mark) same (one.falls before up is)
+pub kept_itself : KeptItself
+kept_itself who hub = goes_nowhere (KeepsClient who) (apart_itself who) hub
 
-    meanwhile : (fell : Option FallenView) → fallen_in second who ≡ fell → (base : List (List ℕ)) (page word : ℕ) → IsSome (right_in first who page)
-        → recorded_value base third who page word ≡ recorded_value base second who page word
-    meanwhile None is base page word held = two.words base page word (subst IsSome (sym (one.rights is page)) held)
-    meanwhile (Some fallen) is base page word held = ap (λ items. value_of base (live_entries items) page word) (two.seen fallen is)
+pub kept_again : KeptAgain
+kept_again who = goes_again (KeepsClient who) (apart_again who)
 
-    before : fallen_in third who ≡ None → fallen_in second who ≡ None
-    before up = still_up who second third two up (fallen_in second who) refl
+pub nothing_itself : CommitsNothingItself
+nothing_itself hub = goes_nowhere CommitsNothing still_itself hub
 
-pub still_itself : StillItself
-still_itself hub = record {
-  commits = refl;
-  image = λ base. refl;
-  sealed = λ lead is. is;
-  sealed_image = λ lead is base. refl;
-}
+pub nothing_again : CommitsNothingAgain
+nothing_again = goes_again CommitsNothing still_again
 
-pub still_again : StillAgain
-still_again first second third one two = record {
-  commits = two.commits ∙ one.commits;
-  image = λ base. two.image base ∙ one.image base;
-  sealed = λ lead is. two.sealed lead (one.sealed lead is);
-  sealed_image = λ lead is base. two.sealed_image lead (one.sealed lead is) base ∙ one.sealed_image lead is base;
+-- what comes from what a sound hub stands for
+pub from_sound : (between : Shared → Shared → Type 0) (hub after : HubView) → (sound : IsSound hub) → GoesOn between hub after → ComesFrom between (stands_for hub sound.stands).shared after
+from_sound between hub after sound goes = goes_from between hub after goes (stands_for hub sound.stands).shared (stands_for hub sound.stands).shows (stands_for hub sound.stands).good
+
+pub image_stands : ImageStands
+image_stands hub after sound still base =
+    let one = from_sound CommitsNothing hub after sound still in
+    ap (image_of base) (sym one.shows.trail) ∙ image_while_still (stands_for hub sound.stands).shared one.next one.comes base ∙ ap (image_of base) (stands_for hub sound.stands).shows.trail
+
+pub live_while_kept : LiveWhileKept
+live_while_kept who hub after sound kept =
+    let one = from_sound (KeepsClient who) hub after sound kept in
+    sym (liveness_shown one.next after one.shows who) ∙ one.comes.live ∙ liveness_shown (stands_for hub sound.stands).shared hub (stands_for hub sound.stands).shows who
+
+pub pages_while_kept : PagesWhileKept
+pages_while_kept who hub after sound kept =
+    let one = from_sound (KeepsClient who) hub after sound kept in
+    sym one.shows.pages ∙ one.comes.pages ∙ (stands_for hub sound.stands).shows.pages
+
+pub owns_while_kept : OwnsWhileKept
+owns_while_kept hub after own sound owns kept = record {
+  sound = owns.sound;
+  few = owns.few;
+  live = live_while_kept own.client hub after sound kept ∙ owns.live;
+  good = good_with_each after (own_of own) (λ shared shows good.
+      let one = from_sound (KeepsClient own.client) hub after sound kept in
+      good_too one.next shared after (own_of own) one.shows shows good
+      (good_with_while_apart (stands_for hub sound.stands).shared one.next (own_of own) (good_with hub (own_of own) owns.good (stands_for hub sound.stands).shared (stands_for hub sound.stands).shows (stands_for hub sound.stands).good) one.comes));
 }
 
 -- a client sees its pending calls over the live entries of the items that it sees
 seen_recorded : (base : List (List ℕ)) (hub : HubView) (own : cache.Own) (page word : ℕ)
-    → seen_value base hub own page word ≡ fold (value_after page word) (recorded_value base hub own.client page word) (entries_by own.client own.pending)
+    → seen_value base hub own page word ≡ fold (value_after page word) (value_of base (live_entries (items_seen hub own.client)) page word) (entries_by own.client own.pending)
 seen_recorded base hub own page word = value_of_more base (live_entries (items_seen hub own.client)) (entries_by own.client own.pending) page word
 
 -- where it has not fallen, over all live entries
@@ -120,30 +120,42 @@ same_held one other held same right page = of_entry (entry_of page held) (λ wor
     of_entry None alike are = tt
     of_entry (Some entry) alike are = same_words one other page entry.words (λ word. alike word refl) are
 
-pub owns_while_apart : OwnsWhileApart
-owns_while_apart hub after own owns apart = record {
-  sound = owns.sound;
-  client = owns.client;
-  live = apart.live ∙ owns.live;
-  cap = apart.cap ∙ owns.cap;
-  few = owns.few;
-  rights = λ up page. apart.rights up page ∙ owns.rights (before up) page;
-  calls = λ up. owns.calls (before up);
-}
-  where
-    before : fallen_in after own.client ≡ None → fallen_in hub own.client ≡ None
-    before up = still_up own.client hub after apart up (fallen_in hub own.client) refl
+-- a right permits at least to read
+pub some_reads : (right : Option Right) → IsSome right → permits right may.Read ≡ true
+some_reads None is = is
+some_reads (Some may.Read) is = refl
+some_reads (Some may.Write) is = refl
 
-pub right_while_apart : RightWhileApart
-right_while_apart base hub after own owns apart right =
+pub right_while_kept : RightWhileKept
+right_while_kept base hub after own sound owns kept right =
     same_held (seen_value base hub own) (seen_value base after own) own.held
     (λ page word held.
     seen_recorded base hub own page word
-    ∙ ap (λ value. fold (value_after page word) value (entries_by own.client own.pending)) (sym (stays page word (fallen_in hub own.client) refl held))
+    ∙ ap (λ value. fold (value_after page word) value (entries_by own.client own.pending)) (sym (stays page word held))
     ∙ sym (seen_recorded base after own page word))
     right
   where
-    stays : (page word : ℕ) (fell : Option FallenView) → fallen_in hub own.client ≡ fell → IsSome (right_of page own.held)
-        → recorded_value base after own.client page word ≡ recorded_value base hub own.client page word
-    stays page word None is held = apart.words base page word (subst IsSome (sym (owns.rights is page)) held)
-    stays page word (Some fallen) is held = ap (λ items. value_of base (live_entries items) page word) (apart.seen fallen is)
+    shared : Shared
+    shared = (stands_for hub sound.stands).shared
+
+    one : ComesFrom (KeepsClient own.client) shared after
+    one = from_sound (KeepsClient own.client) hub after sound kept
+
+    mine : IsGoodWith shared (own_of own)
+    mine = good_with hub (own_of own) owns.good shared (stands_for hub sound.stands).shows (stands_for hub sound.stands).good
+
+    by_fall : (page word : ℕ) → IsSome (right_of page own.held) → (fallen : Option Fallen) → fallen_at shared own.client ≡ fallen
+        → value_of base (seen_by one.next (fallen_at one.next own.client)) page word ≡ value_of base (seen_by shared (fallen_at shared own.client)) page word
+    by_fall page word held None up =
+        one.comes.words base page word
+        (known_by_agreement (client_at shared own.client) (own_of own) mine.agrees up page may.Read
+        (allows_right own.held owns.sound.distinct page may.Read ∙ some_reads (right_of page own.held) held))
+    by_fall page word held (Some fallen) fell =
+        ap (λ o. value_of base (seen_by one.next o) page word) (one.comes.lost fallen fell) ∙ sym (ap (λ o. value_of base (seen_by shared o) page word) fell)
+
+    stays : (page word : ℕ) → IsSome (right_of page own.held)
+        → value_of base (live_entries (items_seen after own.client)) page word ≡ value_of base (live_entries (items_seen hub own.client)) page word
+    stays page word held =
+        ap (λ entries. value_of base entries page word) (sym (seen_shown one.next after one.shows own.client))
+        ∙ by_fall page word held (fallen_at shared own.client) refl
+        ∙ ap (λ entries. value_of base entries page word) (seen_shown shared hub (stands_for hub sound.stands).shows own.client)

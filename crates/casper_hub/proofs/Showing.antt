@@ -12,13 +12,16 @@ use Rattle.casper_cache.specs.declared.held.Held.{Held}
 use Rattle.casper_cache.specs.Holding.{entry_of, right_of, ArePagesDistinct}
 use Rattle.casper_model.specs.Held.{covers, allows}
 use Rattle.casper_model.specs.Client.{Client}
-use Rattle.casper_model.specs.Shared.{Shared, client_at, rights_at, asks_at, fallen_at, of_client}
+use Rattle.casper_model.specs.Shared.{Shared, client_at, asks_at, fallen_at, is_live, of_client}
 use Rattle.casper_model.specs.Room.{all_caps, free_room}
 use Rattle.casper_model.specs.Rights.{OneWriterOrReaders}
 use Rattle.casper_model.proofs.Caps as caps
-use Rattle.casper_hub.specs.HubView.{HubView, ClientView, client_in, cap_of, caps_of, asks_of, right_in, free_in}
-use Rattle.casper_hub.specs.Shows.{permits, Shows, ShowsClient}
-use Rattle.casper_hub.specs.Sound.{IsSound}
+use Rattle.casper_model.specs.View.{seen_by}
+use Rattle.casper_trail.specs.declared.item.Item.{Item}
+use Rattle.casper_trail.specs.Parts.{live_entries}
+use Rattle.casper_hub.specs.HubView.{HubView, ClientView, FallenView, client_in, cap_of, caps_of, asks_of, free_in, fallen_in, items_behind, items_seen}
+use Rattle.casper_hub.specs.HubView.{is_live as live_in}
+use Rattle.casper_hub.specs.Shows.{permits, fallen_of, Shows, ShowsClient}
 use Rattle.casper_hub.specs.Owned.{wants_of}
 
 -- what a test finds in none of the other entries, it finds nowhere
@@ -47,37 +50,23 @@ allows_right (entry ∷ held) distinct page right =
     or_false true = refl
     or_false false = refl
 
--- the machine's rights of any client permit what the directory's do
-rights_shown_by : (hub : HubView) (who : ℕ) (place : Option Client) (shown : Option ClientView) → ShowsClient hub.trail hub.pages.rights who place shown
-    → (shown ≡ None → (page : ℕ) → right_in hub who page ≡ None)
-    → (page : ℕ) (right : Right) → allows (of_client [] (λ client. client.rights) place) page right ≡ permits (right_in hub who page) right
-rights_shown_by hub who None None shows absent page right = ap (λ one. permits one right) (sym (absent refl page))
-rights_shown_by hub who None (Some shown) shows absent page right = absurd shows
-rights_shown_by hub who (Some client) None shows absent page right = absurd shows
-rights_shown_by hub who (Some client) (Some shown) shows absent page right = shows.rights page right
-
-pub rights_shown : (shared : Shared) (hub : HubView) → Shows shared hub → IsSound hub → (who page : ℕ) (right : Right)
-    → allows (rights_at shared who) page right ≡ permits (right_in hub who page) right
-rights_shown shared hub shows sound who page right =
-    rights_shown_by hub who (client_at shared who) (client_in hub who) (shows.clients who) (λ none page. sound.absent who page none) page right
-
-asks_shown_by : (hub : HubView) (who : ℕ) (place : Option Client) (shown : Option ClientView) → ShowsClient hub.trail hub.pages.rights who place shown
+asks_shown_by : (hub : HubView) (place : Option Client) (shown : Option ClientView) → ShowsClient hub.trail place shown
     → of_client [] (λ client. client.asks) place ≡ asks_of shown
-asks_shown_by hub who None None shows = refl
-asks_shown_by hub who None (Some shown) shows = absurd shows
-asks_shown_by hub who (Some client) None shows = absurd shows
-asks_shown_by hub who (Some client) (Some shown) shows = shows.asks
+asks_shown_by hub None None shows = refl
+asks_shown_by hub None (Some shown) shows = absurd shows
+asks_shown_by hub (Some client) None shows = absurd shows
+asks_shown_by hub (Some client) (Some shown) shows = shows.asks
 
 -- and its asks are those of the hub
 pub asks_shown : (shared : Shared) (hub : HubView) → Shows shared hub → (who : ℕ) → asks_at shared who ≡ asks_of (client_in hub who)
-asks_shown shared hub shows who = asks_shown_by hub who (client_at shared who) (client_in hub who) (shows.clients who)
+asks_shown shared hub shows who = asks_shown_by hub (client_at shared who) (client_in hub who) (shows.clients who)
 
-cap_shown_by : (hub : HubView) (who : ℕ) (place : Option Client) (shown : Option ClientView) → ShowsClient hub.trail hub.pages.rights who place shown
+cap_shown_by : (hub : HubView) (place : Option Client) (shown : Option ClientView) → ShowsClient hub.trail place shown
     → caps.cap_in place ≡ cap_of shown
-cap_shown_by hub who None None shows = refl
-cap_shown_by hub who None (Some shown) shows = absurd shows
-cap_shown_by hub who (Some client) None shows = absurd shows
-cap_shown_by hub who (Some client) (Some shown) shows = shows.cap
+cap_shown_by hub None None shows = refl
+cap_shown_by hub None (Some shown) shows = absurd shows
+cap_shown_by hub (Some client) None shows = absurd shows
+cap_shown_by hub (Some client) (Some shown) shows = shows.cap
 
 -- lists of the same length whose values agree place by place have the same sum
 sums_agree : {X Y : Type 0} (f : X → ℕ) (g : Y → ℕ) (x : X) (y : Y) (xs : List X) (ys : List Y) → length xs ≡ length ys
@@ -89,29 +78,49 @@ sums_agree f g x y (a ∷ xs) (b ∷ ys) long same =
     sum_by-cons f a xs ∙ ap₂ (λ first rest. first + rest) (same 0) (sums_agree f g x y xs ys (omega (arith, long)) (λ at. same (suc at))) ∙ sym (sum_by-cons g b ys)
 
 -- the caps are those of the hub, and so is the free room
-pub caps_shown : (shared : Shared) (hub : HubView) → Shows shared hub → IsSound hub → all_caps shared ≡ caps_of hub.clients
-caps_shown shared hub shows sound =
-    sums_agree (of_client 0 (λ client. client.cap)) cap_of None None shared.clients hub.clients (shows.places ∙ sym sound.places)
-    (λ who. cap_shown_by hub who (client_at shared who) (client_in hub who) (shows.clients who))
+pub caps_shown : (shared : Shared) (hub : HubView) → Shows shared hub → length hub.clients ≡ 33 → all_caps shared ≡ caps_of hub.clients
+caps_shown shared hub shows places =
+    sums_agree (of_client 0 (λ client. client.cap)) cap_of None None shared.clients hub.clients (shows.places ∙ sym places)
+    (λ who. cap_shown_by hub (client_at shared who) (client_in hub who) (shows.clients who))
 
-pub free_shown : (shared : Shared) (hub : HubView) → Shows shared hub → IsSound hub → free_room shared ≡ free_in hub
-free_shown shared hub shows sound =
+pub free_shown : (shared : Shared) (hub : HubView) → Shows shared hub → length hub.clients ≡ 33 → free_room shared ≡ free_in hub
+free_shown shared hub shows places =
     let limit = shows.limit in
     let entries : entry_count shared.trail ≡ entry_count hub.trail = ap entry_count shows.trail in
-    let caps = caps_shown shared hub shows sound in
+    let caps = caps_shown shared hub shows places in
     ap₂ (λ a b. a - b) (ap₂ (λ a b. a - b) limit entries) caps
 
--- no client has fallen
-fallen_shown_by : (hub : HubView) (who : ℕ) (place : Option Client) (shown : Option ClientView) → ShowsClient hub.trail hub.pages.rights who place shown
-    → ((client : ClientView) → shown ≡ Some client → client.fallen ≡ None) → of_client None (λ client. client.fallen) place ≡ None
-fallen_shown_by hub who None None shows up = refl
-fallen_shown_by hub who None (Some shown) shows up = absurd shows
-fallen_shown_by hub who (Some client) None shows up = absurd shows
-fallen_shown_by hub who (Some client) (Some shown) shows up = shows.fallen ∙ ap (option_map _) (up shown refl)
+-- whether a client is live, and whether it has fallen, is what the hub knows
+live_shown_by : (trail : List Item) (place : Option Client) (shown : Option ClientView) → ShowsClient trail place shown → is_some place ≡ is_some shown
+live_shown_by trail None None shows = refl
+live_shown_by trail None (Some shown) shows = absurd shows
+live_shown_by trail (Some client) None shows = absurd shows
+live_shown_by trail (Some client) (Some shown) shows = refl
 
-pub fallen_shown : (shared : Shared) (hub : HubView) → Shows shared hub → IsSound hub → (who : ℕ) → fallen_at shared who ≡ None
-fallen_shown shared hub shows sound who =
-    fallen_shown_by hub who (client_at shared who) (client_in hub who) (shows.clients who) (λ client is. (sound.up who client is).1)
+pub liveness_shown : (shared : Shared) (hub : HubView) → Shows shared hub → (who : ℕ) → is_live shared who ≡ live_in hub who
+liveness_shown shared hub shows who = live_shown_by hub.trail (client_at shared who) (client_in hub who) (shows.clients who)
+
+fallen_shown_by : (trail : List Item) (place : Option Client) (shown : Option ClientView) → ShowsClient trail place shown
+    → of_client None (λ client. client.fallen) place ≡ option_map (fallen_of trail) (option_and_then (λ (one : ClientView). one.fallen) shown)
+fallen_shown_by trail None None shows = refl
+fallen_shown_by trail None (Some shown) shows = absurd shows
+fallen_shown_by trail (Some client) None shows = absurd shows
+fallen_shown_by trail (Some client) (Some shown) shows = shows.fallen
+
+pub fall_shown : (shared : Shared) (hub : HubView) → Shows shared hub → (who : ℕ) → fallen_at shared who ≡ option_map (fallen_of hub.trail) (fallen_in hub who)
+fall_shown shared hub shows who = fallen_shown_by hub.trail (client_at shared who) (client_in hub who) (shows.clients who)
+
+pub up_shown : (shared : Shared) (hub : HubView) → Shows shared hub → (who : ℕ) → fallen_in hub who ≡ None → fallen_at shared who ≡ None
+up_shown shared hub shows who up = fall_shown shared hub shows who ∙ ap (option_map (fallen_of hub.trail)) up
+
+-- what a client sees of the trail
+seen_behind : (shared : Shared) (trail : List Item) → shared.trail ≡ trail → (fallen : Option FallenView)
+    → seen_by shared (option_map (fallen_of trail) fallen) ≡ live_entries (items_behind trail fallen)
+seen_behind shared trail same None = ap live_entries same
+seen_behind shared trail same (Some fallen) = refl
+
+pub seen_shown : (shared : Shared) (hub : HubView) → Shows shared hub → (who : ℕ) → seen_by shared (fallen_at shared who) ≡ live_entries (items_seen hub who)
+seen_shown shared hub shows who = ap (seen_by shared) (fall_shown shared hub shows who) ∙ seen_behind shared hub.trail shows.trail (fallen_in hub who)
 
 -- what a page permits to one client as its writer, it permits to no other
 holders_exclude : (holders : Option Holders) (one other : ℕ) → permits (option_and_then (right_among one) holders) may.Write ≡ true
@@ -131,8 +140,8 @@ holders_exclude (Some (Writer who)) one other writes reads = is_writer one may.W
         ]) refl permitted
 
 -- so the machine's rights have one writer or many readers for each page
-pub exclusive_shown : (shared : Shared) (hub : HubView) → Shows shared hub → IsSound hub → OneWriterOrReaders shared
-exclusive_shown shared hub shows sound one other page writes reads =
+pub exclusive_shown : (shared : Shared) (hub : HubView) → Shows shared hub → OneWriterOrReaders shared
+exclusive_shown shared hub shows one other page writes reads =
     holders_exclude (slice_get hub.pages.rights page) one other
-    (sym (rights_shown shared hub shows sound one page may.Write) ∙ writes)
-    (sym (rights_shown shared hub shows sound other page may.Read) ∙ reads)
+    (sym (shows.rights one page may.Write) ∙ writes)
+    (sym (shows.rights other page may.Read) ∙ reads)

@@ -1,5 +1,5 @@
 use Rattle.std.proofs.Common.{◌≡◌, ◌<◌, ◌≤◌, ℕ, ◌+◌, ◌-◌, List, [], true, ◌&&◌, length, refl, sym, ap, ◌∙◌, subst, true≢false, arith}
-use Rattle.std.specs.Prelude.{Option, None, Some, is_some, option_map, option_and_then, find}
+use Rattle.std.specs.Prelude.{Option, None, Some, is_some, option_map, find}
 use Rattle.casper_trail.specs.TrailView.{entry_count}
 use Rattle.casper_trail.specs.Calls.{entry_by, entries_by}
 use Rattle.casper_trail.proofs.CallLists.{count_of_more_entries}
@@ -12,16 +12,17 @@ use Rattle.casper_model.specs.Own.{Own}
 use Rattle.casper_model.specs.Both.{Both}
 use Rattle.casper_model.specs.Room.{all_caps, free_room}
 use Rattle.casper_model.specs.Frozen.{is_member}
+use Rattle.casper_model.specs.Held.{allows}
 use Rattle.casper_model.specs.Opening.{kept_dropped, recorded, begun, given_up, handed_in_to, opened}
 use Rattle.casper_model.specs.Rights.{Agrees, AgreesUnlessFallen, TurnStands, AllowTheSame}
 use Rattle.casper_model.proofs.Places.{client_changed}
 use Rattle.casper_model.proofs.OpeningRights.{places_changed}
 use Rattle.casper_model.proofs.AcquireRights.{within_places}
 use Rattle.casper_model.proofs.Caps.{caps_agreed, caps_same, IsCapped}
-use Rattle.casper_hub.specs.HubView.{HubView, ClientView, client_in, cap_of, fallen_in, is_live}
+use Rattle.casper_hub.specs.HubView.{HubView, ClientView, client_in, cap_of, is_live}
 use Rattle.casper_hub.specs.Shows.{permits, Shows, ShowsClient, ShowsLive}
-use Rattle.casper_hub.specs.Sound.{IsSound}
-use Rattle.casper_hub.specs.Owned.{wants_of, own_of, Owns}
+use Rattle.casper_hub.specs.Owned.{wants_of, own_of}
+use Rattle.casper_hub.proofs.Whole.{Whole, Owning, nobody_fell}
 use Rattle.casper_hub.proofs.Showing.{allows_right, exclusive_shown}
 
 -- a live client, as the machine has it
@@ -30,12 +31,12 @@ pub record Live (shared : Shared) (hub : HubView) (who : ℕ) : Type 0 where
   pub shown : ClientView
   pub at : client_at shared who ≡ Some client
   pub is : client_in hub who ≡ Some shown
-  pub shows : ShowsLive hub.trail hub.pages.rights who client shown
+  pub shows : ShowsLive hub.trail client shown
   pub kept : shown.kept ≡ None
   pub up : shown.fallen ≡ None
 
-live_by : (shared : Shared) (hub : HubView) (who : ℕ) (place : Option Client) (shown : Option ClientView) → IsSound hub → client_at shared who ≡ place → client_in hub who ≡ shown
-    → is_some shown ≡ true → ShowsClient hub.trail hub.pages.rights who place shown → Live shared hub who
+live_by : (shared : Shared) (hub : HubView) (who : ℕ) (place : Option Client) (shown : Option ClientView) → Whole hub → client_at shared who ≡ place → client_in hub who ≡ shown
+    → is_some shown ≡ true → ShowsClient hub.trail place shown → Live shared hub who
 live_by shared hub who None None sound at is live shows = absurd (true≢false (sym live))
 live_by shared hub who None (Some shown) sound at is live shows = absurd shows
 live_by shared hub who (Some client) None sound at is live shows = absurd shows
@@ -49,25 +50,17 @@ live_by shared hub who (Some client) (Some shown) sound at is live shows = recor
   up = (sound.up who shown is).1;
 }
 
-pub live_shown : (shared : Shared) (hub : HubView) (who : ℕ) → Shows shared hub → IsSound hub → is_live hub who ≡ true → Live shared hub who
+pub live_shown : (shared : Shared) (hub : HubView) (who : ℕ) → Shows shared hub → Whole hub → is_live hub who ≡ true → Live shared hub who
 live_shown shared hub who shows sound live = live_by shared hub who (client_at shared who) (client_in hub who) sound refl refl live (shows.clients who)
 
--- no client of a hub has fallen
-pub fallen_of_place : (place : Option ClientView) → ((client : ClientView) → place ≡ Some client → client.fallen ≡ None) → option_and_then (λ (client : ClientView). client.fallen) place ≡ None
-fallen_of_place None up = refl
-fallen_of_place (Some client) up = up client refl
-
-pub nobody_fell : (hub : HubView) (who : ℕ) → IsSound hub → fallen_in hub who ≡ None
-nobody_fell hub who sound = fallen_of_place (client_in hub who) (λ client is. (sound.up who client is).1)
-
-nobody_at_zero : (shared : Shared) (hub : HubView) (place : Option Client) (shown : Option ClientView) → ShowsClient hub.trail hub.pages.rights 0 place shown → shown ≡ None
+nobody_at_zero : (shared : Shared) (hub : HubView) (place : Option Client) (shown : Option ClientView) → ShowsClient hub.trail place shown → shown ≡ None
     → place ≡ None
 nobody_at_zero shared hub None shown shows none = refl
 nobody_at_zero shared hub (Some client) None shows none = absurd shows
 nobody_at_zero shared hub (Some client) (Some shown) shows none = absurd (true≢false (ap is_some none))
 
 -- what a hub owns, the machine's turn finds as it begins
-pub stands : (shared : Shared) (hub : HubView) (own : cache.Own) → Shows shared hub → IsSound hub → Owns hub own → TurnStands shared (own_of own)
+pub stands : (shared : Shared) (hub : HubView) (own : cache.Own) → Shows shared hub → Whole hub → Owning hub own → TurnStands shared (own_of own)
 stands shared hub own shows sound owns = record {
   client = live.client;
   live = live.at;
@@ -75,7 +68,7 @@ stands shared hub own shows sound owns = record {
   nobody = nobody_at_zero shared hub (client_at shared 0) (client_in hub 0) (shows.clients 0) sound.nobody;
   agrees = subst (λ place. Agrees place (own_of own)) (sym live.at)
       (subst (AgreesUnlessFallen live.client (own_of own)) (sym up) (cap, same));
-  exclusive = exclusive_shown shared hub shows sound;
+  exclusive = exclusive_shown shared hub shows;
 }
   where
     live : Live shared hub own.client
@@ -89,7 +82,7 @@ stands shared hub own shows sound owns = record {
 
     same : AllowTheSame live.client.rights (wants_of own.held)
     same page right =
-        live.shows.rights page right ∙ ap (λ one. permits one right) (owns.rights (nobody_fell hub own.client sound) page) ∙ sym (allows_right own.held owns.sound.distinct page right)
+        ap (λ place. allows (of_client [] (λ (client : Client). client.rights) place) page right) (sym live.at) ∙ shows.rights own.client page right ∙ ap (λ one. permits one right) (owns.rights (nobody_fell hub own.client sound) page) ∙ sym (allows_right own.held owns.sound.distinct page right)
 
 -- where nothing is being made stable an opening hands nothing in
 handed_to_none : (both : Both) (who : ℕ) (stabilisations : List Stabilisation) → stabilisations ≡ []

@@ -1,8 +1,7 @@
-pub mod Apart
 pub mod Asks
 pub mod Deciding
-pub mod Few
 pub mod Given
+pub mod GoesOn
 pub mod HubFields
 pub mod HubView
 pub mod Installing
@@ -13,6 +12,5 @@ pub mod Shows
 pub mod Sound
 pub mod Stages
 pub mod Standing
-pub mod Still
 pub mod Turns
 pub mod Words

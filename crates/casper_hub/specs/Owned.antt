@@ -1,13 +1,12 @@
-use Rattle.std.specs.Prelude.{◌≡◌, ℕ, ◌≤◌, List, map, true, None, length, Contains}
-use Rattle.casper_words.specs.Crew.{IsClient}
-use Rattle.casper_words.specs.declared.call.Call.{Call}
+use Rattle.std.specs.Prelude.{◌≡◌, ◌≤◌, ℕ, List, [], map, true, length}
 use Rattle.casper_words.specs.declared.page.Want.{Want}
 use Rattle.casper_cache.specs.declared.held.Held.{Held}
-use Rattle.casper_cache.specs.Holding.{right_of}
 use Rattle.casper_cache.specs.Own as cache
 use Rattle.casper_model.specs.Own as machine
-use Rattle.casper_model.specs.LegalHistory.{CallIsHeld}
-use Rattle.casper_hub.specs.HubView.{HubView, is_live, cap_in, fallen_in, right_in}
+use Rattle.casper_model.specs.Shared.{Shared}
+use Rattle.casper_turns.specs.Good.{IsGoodShared, IsGoodWith}
+use Rattle.casper_hub.specs.HubView.{HubView, is_live}
+use Rattle.casper_hub.specs.Shows.{Shows}
 
 -- a held page as a want
 abbrev pub want_of : Held → Want
@@ -20,12 +19,17 @@ wants_of held = map want_of held
 abbrev pub own_of : cache.Own → machine.Own
 own_of own = record { who = own.client; capacity = own.capacity; cap = own.cap; held = wants_of own.held; pending = own.pending }
 
--- a cache is that of a live client of a hub: both know the same rights and the same cap, and each pending call has its right
+-- an own part is good with each good shared part that a hub stands for
+unfoldable pub IsGoodWithEach : HubView → machine.Own → Type 0
+IsGoodWithEach hub own = (shared : Shared) → Shows shared hub → IsGoodShared shared → IsGoodWith shared own
+
+-- a cache is that of a live client of a hub, and good with what that stands for
 pub record Owns (hub : HubView) (own : cache.Own) : Type 0 where
   pub sound : cache.IsSound own
-  pub client : IsClient own.client
-  pub live : is_live hub own.client ≡ true
-  pub cap : cap_in hub own.client ≡ own.cap
   pub few : length own.held ≤ own.capacity
-  pub rights : fallen_in hub own.client ≡ None → (page : ℕ) → right_in hub own.client page ≡ right_of page own.held
-  pub calls : fallen_in hub own.client ≡ None → (call : Call) → Contains own.pending call → CallIsHeld (wants_of own.held) call
+  pub live : is_live hub own.client ≡ true
+  pub good : IsGoodWithEach hub (own_of own)
+
+-- the cache of a client that has joined
+abbrev pub new_cache : ℕ → ℕ → ℕ → cache.Own
+new_cache who capacity cap = record { client = who; capacity = capacity; held = []; pending = []; cap = cap }

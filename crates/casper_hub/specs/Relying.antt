@@ -2,34 +2,51 @@ use Rattle.std.specs.Prelude.{◌≡◌, ℕ, ◌<◌, List}
 use Rattle.casper_words.specs.declared.call.Op.TheVariants as op
 use Rattle.casper_cache.specs.Holding.{word_of}
 use Rattle.casper_cache.specs.Own as cache
-use Rattle.casper_hub.specs.HubView.{HubView}
+use Rattle.casper_trail.specs.Image.{image_of}
+use Rattle.casper_hub.specs.HubView.{HubView, is_live, page_count}
 use Rattle.casper_hub.specs.Owned.{Owns}
 use Rattle.casper_hub.specs.Words.{CacheIsRight, seen_value}
-use Rattle.casper_hub.specs.Apart.{Apart}
-use Rattle.casper_hub.specs.Still.{Still}
+use Rattle.casper_hub.specs.GoesOn.{KeepsClient, CommitsNothing}
+use Rattle.casper_hub.specs.Sound.{IsSound}
 
--- what a client may rely on, it may rely on while nothing happens, and while one thing happens behind another
-abbrev pub ApartItself : Type 0
-ApartItself = (who : ℕ) (hub : HubView) → Apart who hub hub
+-- what a client may rely on stands while nothing happens
+abbrev pub KeptItself : Type 0
+KeptItself = (who : ℕ) (hub : HubView) → KeepsClient who hub hub
 
-abbrev pub ApartAgain : Type 0
-ApartAgain = (who : ℕ) (first second third : HubView) → Apart who first second → Apart who second third → Apart who first third
+-- what a client may rely on stands while one thing happens after another
+abbrev pub KeptAgain : Type 0
+KeptAgain = (who : ℕ) (first second third : HubView) → KeepsClient who first second → KeepsClient who second third → KeepsClient who first third
 
-abbrev pub StillItself : Type 0
-StillItself = (hub : HubView) → Still hub hub
+-- nothing is committed while nothing happens
+abbrev pub CommitsNothingItself : Type 0
+CommitsNothingItself = (hub : HubView) → CommitsNothing hub hub
 
-abbrev pub StillAgain : Type 0
-StillAgain = (first second third : HubView) → Still first second → Still second third → Still first third
+-- nothing is committed while one thing happens after another that commits nothing
+abbrev pub CommitsNothingAgain : Type 0
+CommitsNothingAgain = (first second third : HubView) → CommitsNothing first second → CommitsNothing second third → CommitsNothing first third
 
--- a cache stays that of its client while others act, and its words stay right, also where its client falls
-abbrev pub OwnsWhileApart : Type 0
-OwnsWhileApart = (hub after : HubView) (own : cache.Own) → Owns hub own → Apart own.client hub after → Owns after own
+-- while nothing is committed the stable image stands
+abbrev pub ImageStands : Type 0
+ImageStands = (hub after : HubView) → IsSound hub → CommitsNothing hub after → (base : List (List ℕ)) → image_of base after.trail ≡ image_of base hub.trail
 
-abbrev pub RightWhileApart : Type 0
-RightWhileApart = (base : List (List ℕ)) (hub after : HubView) (own : cache.Own) → Owns hub own → Apart own.client hub after
+-- a client stays live or absent while others act
+abbrev pub LiveWhileKept : Type 0
+LiveWhileKept = (who : ℕ) (hub after : HubView) → IsSound hub → KeepsClient who hub after → is_live after who ≡ is_live hub who
+
+-- the store has as many pages while others act
+abbrev pub PagesWhileKept : Type 0
+PagesWhileKept = (who : ℕ) (hub after : HubView) → IsSound hub → KeepsClient who hub after → page_count after ≡ page_count hub
+
+-- a cache stays that of its client while others act, also where its client falls
+abbrev pub OwnsWhileKept : Type 0
+OwnsWhileKept = (hub after : HubView) (own : cache.Own) → IsSound hub → Owns hub own → KeepsClient own.client hub after → Owns after own
+
+-- the words of a cache stay right while others act, also where its client falls
+abbrev pub RightWhileKept : Type 0
+RightWhileKept = (base : List (List ℕ)) (hub after : HubView) (own : cache.Own) → IsSound hub → Owns hub own → KeepsClient own.client hub after
     → CacheIsRight base hub own → CacheIsRight base after own
 
--- and behind a hit
+-- and after a hit
 abbrev pub OwnsBehindRead : Type 0
 OwnsBehindRead = (hub : HubView) (own : cache.Own) (page word value : ℕ) → Owns hub own → cache.CanRead own page
     → Owns hub (cache.after_read own (record { op = op.Read; page = page; word = word; value = value }))

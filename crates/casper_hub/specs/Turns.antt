@@ -8,8 +8,9 @@ use Rattle.casper_model.specs.declared.reply.Reply.{Reply}
 use Rattle.casper_model.specs.declared.reply.Reply.TheVariants.{Granted, Pending, Frozen, InDoubt, RolledBack, TrailFull, Load}
 use Rattle.casper_model.specs.Own as machine
 use Rattle.casper_model.specs.Shared.{Shared}
-use Rattle.casper_model.specs.Both.{Turned}
-use Rattle.casper_model.specs.Acquire.{acquire, missing_once_opened}
+use Rattle.casper_model.specs.Both.{Turned, turned}
+use Rattle.casper_model.specs.Acquire.{acquire, missing_once_opened, with_asks}
+use Rattle.casper_model.specs.Opening.{opened}
 use Rattle.casper_model.specs.Join.{join}
 use Rattle.casper_hub.specs.HubView.{HubView, cap_in, frame_in}
 use Rattle.casper_hub.specs.Owned.{own_of}
@@ -25,6 +26,11 @@ pub record IsTurn {R : Type 0} (turn : Shared → machine.Own → Turned R) (rep
 -- the first of these wants of whose page the server has no frame
 abbrev pub first_unframed : HubView → List Want → Option Want
 first_unframed hub wants = find (λ want. is_none (frame_in hub.pages want.page)) wants
+
+-- the machine refuses an acquire with this reply, and once the turn has opened leaves these asks
+abbrev pub IsRefused : HubView → cache.Own → List Want → ℕ → Reply → List Want → Type 0
+IsRefused hub own wants calls reply asks =
+    (shared : Shared) → Shows shared hub → acquire shared (own_of own) wants calls ≡ turned reply (with_asks asks (opened shared (own_of own)))
 
 -- the wants that a turn would grant, and of whose pages the server has a frame
 abbrev pub AreFramed : HubView → cache.Own → List Want → Type 0

@@ -33,10 +33,6 @@ stored_value base hub page word = value_of base (stable_entries hub.trail) page 
 abbrev pub seen_value : List (List ℕ) → HubView → cache.Own → ℕ → ℕ → ℕ
 seen_value base hub own page word = value_of base (live_entries (items_seen hub own.client) ++ entries_by own.client own.pending) page word
 
--- the value of a word over the live entries of the items that a client sees
-abbrev pub recorded_value : List (List ℕ) → HubView → ℕ → ℕ → ℕ → ℕ
-recorded_value base hub who page word = value_of base (live_entries (items_seen hub who)) page word
-
 -- the frames of the server are right over an opening array
 abbrev pub FramesAreRight : List (List ℕ) → HubView → Type 0
 FramesAreRight base hub = ServerIsRight (live_value base hub) (stored_value base hub) hub.pages

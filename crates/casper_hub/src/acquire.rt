@@ -1,14 +1,19 @@
-ghost use Rattle.std.specs.Prelude.{◌≡◌, ◌≢◌, ◌<◌, ◌≤◌, ℕ, List, IfOk, OnOk, OnErr, Contains};
+ghost use Rattle.std.specs.Prelude.{◌≡◌, ◌≢◌, ◌<◌, ◌≤◌, ◌+◌, ◌++◌, ℕ, List, length, IfOk, OnOk, OnErr, Contains};
 ghost use Rattle.casper_words.specs.Wants.{AreWants};
 ghost use Rattle.casper_words.specs.declared.page.Want.{Want as AWant};
-ghost use Rattle.casper_hub.specs.HubView.{page_count};
+ghost use Rattle.casper_trail.specs.Calls.{entries_by};
+ghost use Rattle.casper_trail.specs.Parts.{as_items};
+ghost use Rattle.casper_model.specs.declared.reply.Reply.{Reply as AReply};
+ghost use Rattle.casper_model.specs.declared.reply.Reply.TheVariants.{Granted};
+ghost use Rattle.casper_model.specs.Acquire.{acquire as machine_acquire};
+ghost use Rattle.casper_hub.specs.HubView.{page_count, free_in};
 ghost use Rattle.casper_hub.specs.Owned.{Owns};
 ghost use Rattle.casper_hub.specs.Sound.{IsSound};
-ghost use Rattle.casper_hub.specs.Apart.{Apart};
-ghost use Rattle.casper_hub.specs.Still.{Still};
+ghost use Rattle.casper_hub.specs.GoesOn.{KeepsClient, CommitsNothing};
 ghost use Rattle.casper_hub.specs.Words.{FramesAreRight, CacheIsRight};
-ghost use Rattle.casper_hub.specs.Stages.{Refuses, CanGrant, Grants};
-ghost use Rattle.casper_hub.specs.Turns.{Acquires};
+ghost use Rattle.casper_hub.specs.Given.{topped};
+ghost use Rattle.casper_hub.specs.Stages.{CanGrant};
+ghost use Rattle.casper_hub.specs.Turns.{IsTurn, IsRefused, Acquires};
 
 use crate::Hub;
 use crate::decide::{Decision, decide};
@@ -34,18 +39,22 @@ impl Hub {
         requires client { cache.old.client ≡ who }
         requires owns { Owns self.old cache.old }
         requires wants { AreWants wants.now }
-        requires range { (want : AWant) → Contains wants.now want → want.page < page_count self.old }
+        requires range { (want : AWant) → Contains wants.now want
+            → want.page < page_count self.old }
         requires some { 1 ≤ calls }
         requires few { calls ≤ 4096 }
-        ensures turn { IfOk result (λ reply. Acquires self.old cache.old wants.now calls reply self.new cache.new) }
+        ensures turn { IfOk result
+            (λ reply. Acquires self.old cache.old wants.now calls reply self.new cache.new) }
         ensures memory { OnErr result (self.new ≡ self.old) }
         ensures cache_stays { OnErr result (cache.new ≡ cache.old) }
         ensures owned { Owns self.new cache.new }
         ensures client_after { cache.new.client ≡ who }
-        ensures frames { (base : List (List ℕ)) → FramesAreRight base self.old → CacheIsRight base self.old cache.old → FramesAreRight base self.new }
-        ensures words { (base : List (List ℕ)) → FramesAreRight base self.old → CacheIsRight base self.old cache.old → CacheIsRight base self.new cache.new }
-        ensures others { (other : ℕ) → other ≢ who → Apart other self.old self.new }
-        ensures still { Still self.old self.new }
+        ensures frames { (base : List (List ℕ)) → FramesAreRight base self.old
+            → CacheIsRight base self.old cache.old → FramesAreRight base self.new }
+        ensures words { (base : List (List ℕ)) → FramesAreRight base self.old
+            → CacheIsRight base self.old cache.old → CacheIsRight base self.new cache.new }
+        ensures others { (other : ℕ) → other ≢ who → KeepsClient other self.old self.new }
+        ensures still { CommitsNothing self.old self.new }
         ensures sound { IsSound self.new }
     {
         let pending = cache.pending().as_slice().len() as u32;
@@ -76,9 +85,25 @@ impl Hub {
         requires client { cache.old.client ≡ who }
         requires owns { Owns self.old cache.old }
         requires range { (ask : AWant) → Contains asks ask → ask.page < page_count self.old }
-        ensures ok { OnOk result (Refuses who asks self.old cache.old self.new cache.new) }
+        requires refused { (wants : List AWant) × (calls : ℕ) × (reply : AReply)
+            × IsRefused self.old cache.old wants calls reply asks }
+        ensures turn { OnOk result ((wants : List AWant) (calls : ℕ) (reply : AReply)
+            → IsRefused self.old cache.old wants calls reply asks
+            → IsTurn
+            (λ shared own. machine_acquire shared own wants calls) reply self.old cache.old self.new
+            cache.new) }
+        ensures trail { OnOk result (self.new.trail
+            ≡ self.old.trail ++ as_items (entries_by who cache.old.pending)) }
         ensures memory { OnErr result (self.new ≡ self.old) }
         ensures cache_stays { OnErr result (cache.new ≡ cache.old) }
+        ensures owned { Owns self.new cache.new }
+        ensures client_after { cache.new.client ≡ who }
+        ensures frames { (base : List (List ℕ)) → FramesAreRight base self.old
+            → CacheIsRight base self.old cache.old → FramesAreRight base self.new }
+        ensures words { (base : List (List ℕ)) → FramesAreRight base self.old
+            → CacheIsRight base self.old cache.old → CacheIsRight base self.new cache.new }
+        ensures others { (other : ℕ) → other ≢ who → KeepsClient other self.old self.new }
+        ensures still { CommitsNothing self.old self.new }
         ensures sound { IsSound self.new }
     {
         let _mark: Option<Mark> = None;
@@ -106,11 +131,22 @@ impl Hub {
         requires client { cache.old.client ≡ who }
         requires owns { Owns self.old cache.old }
         requires wants { AreWants wants.now }
-        requires range { (want : AWant) → Contains wants.now want → want.page < page_count self.old }
+        requires range { (want : AWant) → Contains wants.now want
+            → want.page < page_count self.old }
         requires grants { CanGrant who self.old cache.old wants.now missing.now }
-        ensures ok { OnOk result (Grants who wants.now missing.now self.old cache.old self.new cache.new) }
+        ensures turn { OnOk result ((calls : ℕ)
+            → length missing.now + calls ≤ topped cache.old (free_in self.old)
+            → Acquires self.old cache.old wants.now calls Granted self.new cache.new) }
         ensures memory { OnErr result (self.new ≡ self.old) }
         ensures cache_stays { OnErr result (cache.new ≡ cache.old) }
+        ensures owned { Owns self.new cache.new }
+        ensures client_after { cache.new.client ≡ who }
+        ensures frames { (base : List (List ℕ)) → FramesAreRight base self.old
+            → CacheIsRight base self.old cache.old → FramesAreRight base self.new }
+        ensures words { (base : List (List ℕ)) → FramesAreRight base self.old
+            → CacheIsRight base self.old cache.old → CacheIsRight base self.new cache.new }
+        ensures others { (other : ℕ) → other ≢ who → KeepsClient other self.old self.new }
+        ensures still { CommitsNothing self.old self.new }
         ensures sound { IsSound self.new }
     {
         let _mark: Option<Mark> = None;

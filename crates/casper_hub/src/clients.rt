@@ -10,9 +10,6 @@ use casper_words::{Crew, Memory, Page, Right, Want, Who};
 use std::alloc::Global;
 use std::marker::Model;
 
-/// How many places there are: one for each number up to 32, the place 0 unused.
-const PLACES: usize = 33;
-
 /// What is known of a live client: how many more entries may be recorded for it, and its asks.
 #[derive(Drop)]
 pub(crate) struct Place {
@@ -44,8 +41,8 @@ impl Clients {
     pub(crate) fn new(alloc: Global) -> Result<Clients, Memory>
         ensures { IfOk result (λ clients. clients ≡ replicate 33 None) }
     {
-        let mut places = Vec::with_capacity(alloc, PLACES)?;
-        for _place in 0..PLACES {
+        let mut places = Vec::with_capacity(alloc, Who::PLACES)?;
+        for _place in 0..Who::PLACES {
             places.push_reserved(None);
         }
         Ok(Clients { places })
@@ -129,7 +126,8 @@ impl Clients {
 
     /// The other clients that ask for a page, at all or to write it.
     pub(crate) fn askers(&self, who: Who, page: Page, to_write: bool) -> Crew
-        ensures { result ≡ crew_of (asks_for (if to_write then is_to_write else any_right) self.now who page) }
+        ensures { result
+            ≡ crew_of (asks_for (if to_write then is_to_write else any_right) self.now who page) }
     {
         let mut askers = Crew::none();
         for number in 1..Who::MOST + 1 {

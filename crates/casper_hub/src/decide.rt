@@ -33,7 +33,8 @@ pub(crate) fn decide(
     cap: u32,
 ) -> Decision
     requires few { length wants.now ≤ 4 }
-    requires range { (want : AWant) → Contains wants.now want → want.page < length pages.now.rights }
+    requires range { (want : AWant) → Contains wants.now want
+        → want.page < length pages.now.rights }
     requires calls { calls ≤ 4096 }
     ensures { result ≡ decision_for pages.now clients.now who wants.now calls cap }
 {
@@ -80,7 +81,8 @@ fn permits(right: Option<Right>, wanted: Right) -> bool
 /// The wants that a client will not hold with at least their right.
 fn missing_of(pages: &Pages, clients: &Clients, who: Who, wants: &[Want]) -> FewWants
     requires few { length wants.now ≤ 4 }
-    requires range { (want : AWant) → Contains wants.now want → want.page < length pages.now.rights }
+    requires range { (want : AWant) → Contains wants.now want
+        → want.page < length pages.now.rights }
     ensures { result ≡ missing_in pages.now clients.now who wants.now }
 {
     let mut missing = FewWants::none();
@@ -142,7 +144,8 @@ fn blockers_of(pages: &Pages, clients: &Clients, who: Who, missing: &[Want]) -> 
 /// The wants that another client stands in the way of.
 fn blocked_of(pages: &Pages, clients: &Clients, who: Who, missing: &[Want]) -> FewWants
     requires few { length missing.now ≤ 4 }
-    requires range { (want : AWant) → Contains missing.now want → want.page < length pages.now.rights }
+    requires range { (want : AWant) → Contains missing.now want
+        → want.page < length pages.now.rights }
     ensures { result ≡ blocked_in pages.now clients.now who missing.now }
 {
     let mut blocked = FewWants::none();

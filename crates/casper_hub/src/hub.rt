@@ -1,11 +1,11 @@
-ghost use Rattle.std.specs.Prelude.{◌≡◌, ◌≢◌, ◌<◌, ℕ, [], List, true, false, ◌==◌, None, IfOk, OnOk, OnErr, IsSome};
+ghost use Rattle.std.specs.Prelude.{◌≡◌, ◌≢◌, ◌<◌, ◌≤◌, ℕ, [], List, true, false, ◌==◌, None, IfOk, OnOk, OnErr, IsSome};
 ghost use Rattle.casper_trail.specs.TrailView.{commit_count};
 ghost use Rattle.casper_model.specs.Shared.{new_shared};
-ghost use Rattle.casper_hub.specs.HubView.{is_live as is_live_in, cap_in, frame_in, page_count, right_in};
+ghost use Rattle.casper_hub.specs.HubView.{is_live as is_live_in, cap_in, frame_in, page_count};
+ghost use Rattle.casper_hub.specs.Owned.{Owns, new_cache};
 ghost use Rattle.casper_hub.specs.Shows.{Shows};
 ghost use Rattle.casper_hub.specs.Sound.{IsSound};
-ghost use Rattle.casper_hub.specs.Apart.{Apart};
-ghost use Rattle.casper_hub.specs.Still.{Still};
+ghost use Rattle.casper_hub.specs.GoesOn.{KeepsClient, CommitsNothing};
 ghost use Rattle.casper_hub.specs.Words.{FramesAreRight, IsStored};
 ghost use Rattle.casper_hub.specs.Turns.{Joins};
 
@@ -35,11 +35,12 @@ impl Model for Hub {
     ghost Value = { HubView };
 
     ghost use Rattle.casper_hub.specs.HubFields.{hub_of};
-    ghost use Rattle.casper_hub.specs.Sound.{IsSound};
+    ghost use Rattle.casper_hub.specs.Sound.{IsSound, IsPlain};
 
     ghost view = { λ hub. hub_of hub.trail.items hub.limit hub.clients hub.pages };
 
-    ghost invariant = { λ hub. IsSound (hub_of hub.trail.items hub.limit hub.clients hub.pages) × (hub.trail.limit ≡ hub.limit) };
+    ghost invariant = { λ hub. IsSound (hub_of hub.trail.items hub.limit hub.clients hub.pages)
+        × IsPlain (hub_of hub.trail.items hub.limit hub.clients hub.pages) × (hub.trail.limit ≡ hub.limit) };
 }
 
 impl Hub {
@@ -68,11 +69,13 @@ impl Hub {
     pub fn join(&mut self, who: Who) -> Result<(), JoinRefusal>
         ensures turn { Joins who result self.old self.new }
         ensures live { OnOk result (is_live_in self.new who ≡ true) }
-        ensures rights { OnOk result ((page : ℕ) → right_in self.new who page ≡ None) }
+        ensures owned { OnOk result ((capacity : ℕ) → 8 ≤ capacity → capacity ≤ 1024
+            → Owns self.new (new_cache who capacity (cap_in self.new who))) }
         ensures refused { OnErr result (self.new ≡ self.old) }
-        ensures others { (other : ℕ) → other ≢ who → Apart other self.old self.new }
-        ensures still { Still self.old self.new }
-        ensures frames { (base : List (List ℕ)) → FramesAreRight base self.old → FramesAreRight base self.new }
+        ensures others { (other : ℕ) → other ≢ who → KeepsClient other self.old self.new }
+        ensures still { CommitsNothing self.old self.new }
+        ensures frames { (base : List (List ℕ)) → FramesAreRight base self.old
+            → FramesAreRight base self.new }
         ensures sound { IsSound self.new }
     {
         // So that the proof knows the bounds of the number.
@@ -95,13 +98,17 @@ impl Hub {
         ensures answer { IfOk result (λ taken. taken ≡ (commit_count self.old.trail == marks)) }
         ensures memory { OnErr result (self.new ≡ self.old) }
         ensures refused { IfOk result (λ taken. taken ≡ false → self.new ≡ self.old) }
-        ensures framed { IfOk result (λ taken. taken ≡ true → IsSome (frame_in self.new.pages page)) }
-        ensures stays { (other : ℕ) → IsSome (frame_in self.old.pages other) → frame_in self.new.pages other ≡ frame_in self.old.pages other }
-        ensures but_frames { self.new ≡ record self.old { pages = record self.old.pages { frames = self.new.pages.frames } } }
-        ensures frames { (base : List (List ℕ)) → (marks ≡ commit_count self.old.trail → IsStored base self.old page frame)
+        ensures framed { IfOk result (λ taken. taken ≡ true
+            → IsSome (frame_in self.new.pages page)) }
+        ensures stays { (other : ℕ) → IsSome (frame_in self.old.pages other)
+            → frame_in self.new.pages other ≡ frame_in self.old.pages other }
+        ensures but_frames { self.new
+            ≡ record self.old { pages = record self.old.pages { frames = self.new.pages.frames } } }
+        ensures frames { (base : List (List ℕ))
+            → (marks ≡ commit_count self.old.trail → IsStored base self.old page frame)
             → FramesAreRight base self.old → FramesAreRight base self.new }
-        ensures others { (other : ℕ) → Apart other self.old self.new }
-        ensures still { Still self.old self.new }
+        ensures others { (other : ℕ) → KeepsClient other self.old self.new }
+        ensures still { CommitsNothing self.old self.new }
         ensures sound { IsSound self.new }
     {
         if self.trail.commits() != marks {

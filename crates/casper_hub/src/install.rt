@@ -21,8 +21,10 @@ fn install_one(pages: &Pages, cache: &mut Cache, want: Want) -> Result<bool, Mem
     requires page { want.page < length pages.now.rights }
     requires framed { IsSome (frame_in pages.now want.page) }
     requires few { length cache.old.held < cache.old.capacity + 4 }
-    ensures ok { OnOk result (cache.new ≡ record cache.old { held = with_page pages.now cache.old.held want }) }
-    ensures told { IfOk result (λ installed. installed ≡ is_none (right_of want.page cache.old.held)) }
+    ensures ok { OnOk result (cache.new
+        ≡ record cache.old { held = with_page pages.now cache.old.held want }) }
+    ensures told { IfOk result (λ installed. installed
+        ≡ is_none (right_of want.page cache.old.held)) }
     ensures err { OnErr result (cache.new ≡ cache.old) }
 {
     if cache.right(want.page).is_some() {
@@ -37,10 +39,13 @@ fn install_one(pages: &Pages, cache: &mut Cache, want: Want) -> Result<bool, Mem
 
 /// Holds each wanted page, those in front that were not held. Where memory is short they are given up again, and nothing has changed.
 pub(crate) fn install(pages: &Pages, cache: &mut Cache, wants: &[Want]) -> Result<(), Memory>
-    requires pages { (want : AWant) → Contains wants.now want → want.page < length pages.now.rights }
-    requires framed { (want : AWant) → Contains wants.now want → IsSome (frame_in pages.now want.page) }
+    requires pages { (want : AWant) → Contains wants.now want
+        → want.page < length pages.now.rights }
+    requires framed { (want : AWant) → Contains wants.now want
+        → IsSome (frame_in pages.now want.page) }
     requires few { length cache.old.held + length wants.now ≤ cache.old.capacity + 4 }
-    ensures ok { OnOk result (cache.new ≡ record cache.old { held = with_pages pages.now cache.old.held wants.now }) }
+    ensures ok { OnOk result (cache.new
+        ≡ record cache.old { held = with_pages pages.now cache.old.held wants.now }) }
     ensures err { OnErr result (cache.new ≡ cache.old) }
 {
     let [want, rest @ ..] = wants else {
@@ -66,14 +71,20 @@ pub(crate) fn grant(
 )
     requires room { length missing.now ≤ trail.old.room }
     requires limit { entry_count trail.old.items + length missing.now ≤ trail.old.limit }
-    requires pages { (want : AWant) → Contains missing.now want → want.page < length pages.old.rights }
-    requires held { (want : AWant) → Contains missing.now want → IsSome (right_of want.page cache.old.held) }
-    requires free { (want : AWant) → Contains missing.now want → conflicts_at pages.old.rights want.page who want.right ≡ [] }
+    requires pages { (want : AWant) → Contains missing.now want
+        → want.page < length pages.old.rights }
+    requires held { (want : AWant) → Contains missing.now want
+        → IsSome (right_of want.page cache.old.held) }
+    requires free { (want : AWant) → Contains missing.now want
+        → conflicts_at pages.old.rights want.page who want.right ≡ [] }
     ensures trail { trail.new.items ≡ trail.old.items ++ as_items (touches_by who missing.now) }
     ensures limit { trail.new.limit ≡ trail.old.limit }
     ensures count { length pages.new.rights ≡ length pages.old.rights }
-    ensures rights { (page : ℕ) → right_at pages.new.rights who page ≡ all_granted page (right_at pages.old.rights who page) missing.now }
-    ensures others { (client page : ℕ) → IsClient client → client ≢ who → right_at pages.new.rights client page ≡ right_at pages.old.rights client page }
+    ensures rights { (page : ℕ)
+        → right_at pages.new.rights who page
+        ≡ all_granted page (right_at pages.old.rights who page) missing.now }
+    ensures others { (client page : ℕ) → IsClient client → client ≢ who
+        → right_at pages.new.rights client page ≡ right_at pages.old.rights client page }
     ensures holders { AreAllClients pages.old.rights → AreAllClients pages.new.rights }
     ensures frames { pages.new.frames ≡ pages.old.frames }
     ensures cache { cache.new ≡ record cache.old { held = all_raised cache.old.held missing.now } }
@@ -90,7 +101,8 @@ pub(crate) fn grant(
 
 /// Brings the wanted pages to the front, the last of them first.
 pub(crate) fn bring_to_front(cache: &mut Cache, wants: &[Want])
-    requires { (want : AWant) → Contains wants.now want → IsSome (right_of want.page cache.old.held) }
+    requires { (want : AWant) → Contains wants.now want
+        → IsSome (right_of want.page cache.old.held) }
     ensures { cache.new ≡ record cache.old { held = all_fronted cache.old.held wants.now } }
 {
     for want in wants {
@@ -104,7 +116,8 @@ fn give_up_last(pages: &mut Pages, who: Who, cache: &mut Cache) -> bool
     requires all { (page : ℕ) → right_at pages.old.rights who page ≡ right_of page cache.old.held }
     ensures gives { GivesUp who pages.old cache.old.held pages.new cache.new.held }
     ensures all { (page : ℕ) → right_at pages.new.rights who page ≡ right_of page cache.new.held }
-    ensures held { OnTrue result (cache.new.held ≡ take (length cache.old.held - 1) cache.old.held) }
+    ensures held { OnTrue result (cache.new.held
+        ≡ take (length cache.old.held - 1) cache.old.held) }
     ensures fewer { OnTrue result (0 < length cache.old.held) }
     ensures none { OnFalse result (cache.old.held ≡ []) }
     ensures unchanged { OnFalse result (cache.new ≡ cache.old) }

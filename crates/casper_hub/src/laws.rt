@@ -1,14 +1,17 @@
 ghost use Rattle.casper_hub.specs.Standing.{EachHubStandsForSome};
-ghost use Rattle.casper_hub.specs.Relying.{ApartItself, ApartAgain, StillItself, StillAgain, OwnsWhileApart, RightWhileApart, OwnsBehindRead, OwnsBehindWrite, RightBehindRead, RightBehindWrite, HitsReadWhatIsSeen};
+ghost use Rattle.casper_hub.specs.Relying.{KeptItself, KeptAgain, CommitsNothingItself, CommitsNothingAgain, ImageStands, LiveWhileKept, PagesWhileKept, OwnsWhileKept, RightWhileKept, OwnsBehindRead, OwnsBehindWrite, RightBehindRead, RightBehindWrite, HitsReadWhatIsSeen};
 
-/// What a client may rely on while others act. It does nothing.
-pub fn apart_laws()
-    ensures apart_itself { ApartItself }
-    ensures apart_again { ApartAgain }
-    ensures still_itself { StillItself }
-    ensures still_again { StillAgain }
-    ensures owns { OwnsWhileApart }
-    ensures right { RightWhileApart }
+/// What a client may rely on while others act, and what stays while nothing is committed. It does nothing.
+pub fn relying_laws()
+    ensures kept_itself { KeptItself }
+    ensures kept_again { KeptAgain }
+    ensures nothing_itself { CommitsNothingItself }
+    ensures nothing_again { CommitsNothingAgain }
+    ensures image { ImageStands }
+    ensures live { LiveWhileKept }
+    ensures pages { PagesWhileKept }
+    ensures owns { OwnsWhileKept }
+    ensures right { RightWhileKept }
 {}
 
 /// What a hit leaves, and what it reads. It does nothing.

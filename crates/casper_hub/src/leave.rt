@@ -3,8 +3,7 @@ ghost use Rattle.casper_model.specs.Leave.{serve as machine_serve, depart as mac
 ghost use Rattle.casper_hub.specs.HubView.{is_live as is_live_in};
 ghost use Rattle.casper_hub.specs.Owned.{Owns};
 ghost use Rattle.casper_hub.specs.Sound.{IsSound};
-ghost use Rattle.casper_hub.specs.Apart.{Apart};
-ghost use Rattle.casper_hub.specs.Still.{Still};
+ghost use Rattle.casper_hub.specs.GoesOn.{KeepsClient, CommitsNothing};
 ghost use Rattle.casper_hub.specs.Words.{FramesAreRight, CacheIsRight};
 ghost use Rattle.casper_hub.specs.Turns.{IsTurn};
 
@@ -22,15 +21,18 @@ impl Hub {
     pub fn serve(&mut self, who: Who, cache: &mut Cache) -> Result<Served, Memory>
         requires client { cache.old.client ≡ who }
         requires owns { Owns self.old cache.old }
-        ensures turn { IfOk result (λ reply. IsTurn machine_serve reply self.old cache.old self.new cache.new) }
+        ensures turn { IfOk result
+            (λ reply. IsTurn machine_serve reply self.old cache.old self.new cache.new) }
         ensures memory { OnErr result (self.new ≡ self.old) }
         ensures cache_stays { OnErr result (cache.new ≡ cache.old) }
         ensures owned { Owns self.new cache.new }
         ensures client_after { cache.new.client ≡ who }
-        ensures frames { (base : List (List ℕ)) → FramesAreRight base self.old → CacheIsRight base self.old cache.old → FramesAreRight base self.new }
-        ensures words { (base : List (List ℕ)) → FramesAreRight base self.old → CacheIsRight base self.old cache.old → CacheIsRight base self.new cache.new }
-        ensures others { (other : ℕ) → other ≢ who → Apart other self.old self.new }
-        ensures still { Still self.old self.new }
+        ensures frames { (base : List (List ℕ)) → FramesAreRight base self.old
+            → CacheIsRight base self.old cache.old → FramesAreRight base self.new }
+        ensures words { (base : List (List ℕ)) → FramesAreRight base self.old
+            → CacheIsRight base self.old cache.old → CacheIsRight base self.new cache.new }
+        ensures others { (other : ℕ) → other ≢ who → KeepsClient other self.old self.new }
+        ensures still { CommitsNothing self.old self.new }
         ensures sound { IsSound self.new }
     {
         let _mark: Option<Mark> = None;
@@ -46,21 +48,26 @@ impl Hub {
         Ok(Served::Ok)
     }
 
-    /// A turn in which a live client gives up every page and departs: it is absent behind it. After RolledBack it stays live. After Memory
-    /// nothing has changed.
+    /// A turn in which a live client gives up every page and departs: it is absent after it. As yet no client falls, so none is told
+    /// of it. After Memory nothing has changed.
     pub fn depart(&mut self, who: Who, cache: &mut Cache) -> Result<Served, Memory>
         requires client { cache.old.client ≡ who }
         requires owns { Owns self.old cache.old }
-        ensures turn { IfOk result (λ reply. IsTurn machine_depart reply self.old cache.old self.new cache.new) }
+        ensures turn { IfOk result
+            (λ reply. IsTurn machine_depart reply self.old cache.old self.new cache.new) }
         ensures memory { OnErr result (self.new ≡ self.old) }
         ensures cache_stays { OnErr result (cache.new ≡ cache.old) }
-        ensures absent { IfOk result (λ reply. reply ≡ Served.Ok → is_live_in self.new who ≡ false) }
+        ensures departed { IfOk result (λ reply. reply ≡ Served.Ok) }
+        ensures absent { IfOk result (λ reply. reply ≡ Served.Ok
+            → is_live_in self.new who ≡ false) }
         ensures owned { is_live_in self.new who ≡ true → Owns self.new cache.new }
         ensures client_after { cache.new.client ≡ who }
-        ensures frames { (base : List (List ℕ)) → FramesAreRight base self.old → CacheIsRight base self.old cache.old → FramesAreRight base self.new }
-        ensures words { (base : List (List ℕ)) → FramesAreRight base self.old → CacheIsRight base self.old cache.old → CacheIsRight base self.new cache.new }
-        ensures others { (other : ℕ) → other ≢ who → Apart other self.old self.new }
-        ensures still { Still self.old self.new }
+        ensures frames { (base : List (List ℕ)) → FramesAreRight base self.old
+            → CacheIsRight base self.old cache.old → FramesAreRight base self.new }
+        ensures words { (base : List (List ℕ)) → FramesAreRight base self.old
+            → CacheIsRight base self.old cache.old → CacheIsRight base self.new cache.new }
+        ensures others { (other : ℕ) → other ≢ who → KeepsClient other self.old self.new }
+        ensures still { CommitsNothing self.old self.new }
         ensures sound { IsSound self.new }
     {
         let _mark: Option<Mark> = None;

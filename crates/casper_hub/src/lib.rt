@@ -13,4 +13,4 @@ mod opening;
 mod pages;
 
 pub use hub::Hub;
-pub use laws::{apart_laws, hit_laws, standing_laws};
+pub use laws::{hit_laws, relying_laws, standing_laws};

@@ -41,10 +41,12 @@ fn record(trail: &mut Trail, clients: &mut Clients, who: Who, cache: &mut Cache,
     requires cap { cap_of (place_in clients.old who) ≡ cache.old.cap }
     requires pending { length cache.old.pending ≤ cache.old.cap }
     requires fits { cache.old.cap + free < 2 ^ 32 }
-    ensures trail { trail.new.items ≡ trail.old.items ++ as_items (entries_by who cache.old.pending) }
+    ensures trail { trail.new.items
+        ≡ trail.old.items ++ as_items (entries_by who cache.old.pending) }
     ensures limit { trail.new.limit ≡ trail.old.limit }
     ensures room { trail.old.room ≡ trail.new.room + length cache.old.pending }
-    ensures clients { clients.new ≡ slice_set clients.old who (with_cap (topped cache.old free) (place_in clients.old who)) }
+    ensures clients { clients.new
+        ≡ slice_set clients.old who (with_cap (topped cache.old free) (place_in clients.old who)) }
     ensures cache { cache.new ≡ record cache.old { pending = []; cap = topped cache.old free } }
 {
     let _mark: Option<Mark> = None;
@@ -60,7 +62,8 @@ fn record(trail: &mut Trail, clients: &mut Clients, who: Who, cache: &mut Cache,
 fn meet(pages: &mut Pages, who: Who, cache: &mut Cache, ask: Want)
     requires covers { Covers who pages.old cache.old.held }
     requires page { ask.page < length pages.old.rights }
-    ensures meets { Meets who (are_for is_to_write (ask ∷ [])) (are_for any_right (ask ∷ [])) pages.old cache.old.held pages.new cache.new.held }
+    ensures meets { Meets who (are_for is_to_write (ask ∷ []))
+        (are_for any_right (ask ∷ [])) pages.old cache.old.held pages.new cache.new.held }
     ensures rest { cache.new ≡ record cache.old { held = cache.new.held } }
 {
     if let Some(right) = pages.right(who, ask.page) {
@@ -78,7 +81,8 @@ fn meet(pages: &mut Pages, who: Who, cache: &mut Cache, ask: Want)
 fn meet_each(pages: &mut Pages, who: Who, cache: &mut Cache, asks: &[Want])
     requires covers { Covers who pages.old cache.old.held }
     requires asked { (ask : AnAsk) → Contains asks.now ask → ask.page < length pages.old.rights }
-    ensures meets { Meets who (are_for is_to_write asks.now) (are_for any_right asks.now) pages.old cache.old.held pages.new cache.new.held }
+    ensures meets { Meets who (are_for is_to_write asks.now)
+        (are_for any_right asks.now) pages.old cache.old.held pages.new cache.new.held }
     ensures rest { cache.new ≡ record cache.old { held = cache.new.held } }
 {
     for ask in asks {
@@ -89,8 +93,10 @@ fn meet_each(pages: &mut Pages, who: Who, cache: &mut Cache, asks: &[Want])
 /// The same for the asks of all other clients.
 fn meet_all(pages: &mut Pages, clients: &Clients, who: Who, cache: &mut Cache)
     requires covers { Covers who pages.old cache.old.held }
-    requires asked { (other : ℕ) (ask : AnAsk) → Contains (asks_of (place_in clients.now other)) ask → ask.page < length pages.old.rights }
-    ensures meets { Meets who (asked_below 33 is_to_write clients.now who) (asked_below 33 any_right clients.now who) pages.old cache.old.held pages.new cache.new.held }
+    requires asked { (other : ℕ) (ask : AnAsk) → Contains (asks_of (place_in clients.now other)) ask
+        → ask.page < length pages.old.rights }
+    ensures meets { Meets who (asked_below 33 is_to_write clients.now who)
+        (asked_below 33 any_right clients.now who) pages.old cache.old.held pages.new cache.new.held }
     ensures rest { cache.new ≡ record cache.old { held = cache.new.held } }
 {
     for number in 1..Who::MOST + 1 {
@@ -118,7 +124,8 @@ pub(crate) fn open(
     requires cap { cap_of (place_in clients.old who) ≡ cache.old.cap }
     requires covers { Covers who pages.old cache.old.held }
     requires room { length cache.old.pending ≤ trail.old.room }
-    ensures opens { Opens who (hub_of trail.old.items limit clients.old pages.old) cache.old (hub_of trail.new.items limit clients.new pages.new) cache.new }
+    ensures opens { Opens who (hub_of trail.old.items limit clients.old pages.old) cache.old
+        (hub_of trail.new.items limit clients.new pages.new) cache.new }
     ensures limit { trail.new.limit ≡ trail.old.limit }
     ensures room { trail.old.room ≡ trail.new.room + length cache.old.pending }
     ensures own { IsSoundCache cache.new }

@@ -37,7 +37,8 @@ impl Pages {
     /// The pages of a store, which nobody holds and of which the server has no frame.
     pub(crate) fn new(alloc: Global, pages: u32) -> Result<Pages, Memory>
         ensures rights { IfOk result (λ made. length made.rights ≡ pages) }
-        ensures none { IfOk result (λ made. (client page : ℕ) → right_at made.rights client page ≡ None) }
+        ensures none { IfOk result (λ made. (client page : ℕ)
+            → right_at made.rights client page ≡ None) }
         ensures holders { IfOk result (λ made. AreAllClients made.rights) }
         ensures frames { IfOk result (λ made. made.frames ≡ replicate pages None) }
     {
@@ -103,7 +104,10 @@ impl Pages {
     pub(crate) fn supply(&mut self, page: Page, frame: Frame)
         requires { page < length self.old.rights }
         ensures rights { self.new.rights ≡ self.old.rights }
-        ensures frames { self.new.frames ≡ (if is_some (frame_in self.old page) then self.old.frames else slice_set self.old.frames page (Some frame)) }
+        ensures frames { self.new.frames
+            ≡ (if is_some
+            (frame_in self.old page) then self.old.frames else slice_set self.old.frames page
+            (Some frame)) }
     {
         // So that the proof knows the invariant: there are as many frames as pages.
         let _rights = &self.directory;
@@ -118,7 +122,8 @@ impl Pages {
         requires page { want.page < length self.old.rights }
         requires free { conflicts_at self.old.rights want.page who want.right ≡ [] }
         ensures count { length self.new.rights ≡ length self.old.rights }
-        ensures rights { ChangesOneRight self.old.rights self.new.rights who want.page (Some (raised (right_at self.old.rights who want.page) want.right)) }
+        ensures rights { ChangesOneRight self.old.rights self.new.rights who want.page
+            (Some (raised (right_at self.old.rights who want.page) want.right)) }
         ensures holders { AreAllClients self.new.rights }
         ensures frames { self.new.frames ≡ self.old.frames }
     {
@@ -130,13 +135,19 @@ impl Pages {
     pub(crate) fn give_up(&mut self, who: Who, cache: &mut Cache, page: Page, keep: bool)
         requires page { page < length self.old.rights }
         requires held { IsSome (right_of page cache.old.held) }
-        requires framed { right_at self.old.rights who page ≡ Some Right.Write → IsSome (frame_in self.old page) }
+        requires framed { right_at self.old.rights who page ≡ Some Right.Write
+            → IsSome (frame_in self.old page) }
         requires kept { IsTrue keep → writer_at self.old.rights page ≡ Some who }
         ensures count { length self.new.rights ≡ length self.old.rights }
-        ensures rights { ChangesOneRight self.old.rights self.new.rights who page (if keep then Some Right.Read else None) }
+        ensures rights { ChangesOneRight self.old.rights self.new.rights who page
+            (if keep then Some Right.Read else None) }
         ensures holders { AreAllClients self.new.rights }
         ensures frames { self.new.frames ≡ handed_in self.old who page cache.old.held }
-        ensures cache { cache.new ≡ record cache.old { held = (if keep then lowered page cache.old.held else others page cache.old.held) } }
+        ensures cache { cache.new
+            ≡ record cache.old {
+              held =
+                  (if keep then lowered page cache.old.held else others page cache.old.held);
+            } }
     {
         if self.directory.writer(page) == Some(who) {
             let place = &mut self.frames[page.0 as usize];

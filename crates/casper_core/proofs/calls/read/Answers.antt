@@ -10,13 +10,13 @@ use Rattle.casper_model.specs.Turn.{Turn}
 use Rattle.casper_words.specs.declared.call.Op.TheVariants as op
 use Rattle.casper_hub.specs.Owned.{Owns, own_of}
 use Rattle.casper_model.specs.Step.{read_turn}
-use Rattle.casper_core.specs.Acting.{IsPart, Gives, Holds}
+use Rattle.casper_core.specs.Acting.{IsPart, IsTurnResult, Holds}
 use Rattle.casper_core.specs.Loading.{Acquired}
 use Rattle.casper_core.specs.Shaped.{IsShape}
 use Rattle.casper_hub.proofs.Hitting.{owns_behind_read, right_behind_read}
 use Rattle.casper_core.proofs.MachineTurns.{called_gives}
 use Rattle.casper_core.proofs.CallTurns.{sees_part, sees_behind, shape_of_part, read_refused, call_hits, call_refused, call_failed, call_granted, granted_can, not_granted, never_disk, as_answered, leaves_hit, holds_again, holds_itself}
-use Rattle.casper_core.proofs.Hits.{cannot_read}
+use Rattle.casper_hub.proofs.HeldHits.{cannot_read}
 use Rattle.casper_core.proofs.HitTurns.{read_hits, read_misses, read_hits_with, read_misses_with}
 use Rattle.casper_core.proofs.calls.read.Goals as goal
 
@@ -130,7 +130,7 @@ returns-in_default-reply-clause-makes g c = λ state part.
     (λ can. true≢false (sym (c.in_default.ensures.exactly.1 (subst (λ (own : cache.Own). cache.CanRead own c.args.page) same can)))) in
     let acquired = subst (λ one. Acquired c.args.hub.now c.hit_read.new.self (record { page = c.args.page; right = may.Read } ∷ []) 1 one c.acquire.new.hub c.acquire.new.cache)
     c.in-Some-2.is c.in_ok-reply.ensures.turn in
-    subst (λ (turn : Turn). Gives c.args.who state turn c.answer_of.result c.acquire.new.hub (own_of c.acquire.new.cache))
+    subst (λ (turn : Turn). IsTurnResult c.args.who state turn c.answer_of.result c.acquire.new.hub (own_of c.acquire.new.cache))
     (sym (read_refused c.args.who c.args.page c.args.word state c.in-Some-2.reply c.answer_of.result c.answer_of.ensures))
     (as_answered c.args.who state (λ outside. read_turn c.args.who c.args.page c.args.word outside state) c.in-Some-2.reply c.answer_of.result c.acquire.new.hub (own_of c.acquire.new.cache) acquired.1
     c.answer_of.ensures
@@ -139,7 +139,7 @@ returns-in_default-reply-clause-makes g c = λ state part.
 
 pub returns-in_default-reply-clause-does : goal.returns-in_default-reply-clause-does
 returns-in_default-reply-clause-does g c = λ told state part.
-    subst (λ (turn : Turn). Gives c.args.who state turn c.answer_of.result c.acquire.new.hub (own_of c.acquire.new.cache))
+    subst (λ (turn : Turn). IsTurnResult c.args.who state turn c.answer_of.result c.acquire.new.hub (own_of c.acquire.new.cache))
     (read_refused c.args.who c.args.page c.args.word state c.in-Some-2.reply c.answer_of.result c.answer_of.ensures)
     (returns-in_default-reply-clause-makes g c state (shape_of_part c.args.who (g.V.Vault.image c.args.vault.now) state c.args.hub.now c.args.cache.now part))
 

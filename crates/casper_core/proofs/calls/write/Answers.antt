@@ -14,7 +14,7 @@ use Rattle.casper_core.specs.Shaped.{IsShape}
 use Rattle.casper_hub.proofs.Hitting.{owns_behind_write, right_behind_write}
 use Rattle.casper_core.proofs.MachineTurns.{called_gives}
 use Rattle.casper_core.proofs.CallTurns.{call_hits, call_refused, call_failed, call_granted, granted_can, not_granted, never_disk, as_answered, leaves_hit, holds_again, holds_itself}
-use Rattle.casper_core.proofs.Hits.{cannot_write}
+use Rattle.casper_hub.proofs.HeldHits.{cannot_write}
 use Rattle.casper_core.proofs.HitTurns.{write_hits, write_misses}
 use Rattle.casper_core.proofs.calls.write.Goals as goal
 

@@ -1,5 +1,5 @@
-use Rattle.casper_hub.proofs.Witness.{some_shared, some_shows}
+use Rattle.casper_hub.proofs.StandsFor.{stands_for}
 use Rattle.casper_hub.proofs.laws.standing_laws.Goals as goal
 
 pub returns : goal.returns
-returns c hub sound = (some_shared hub, some_shows hub sound)
+returns c hub sound = ((stands_for hub sound.stands).shared, (stands_for hub sound.stands).shows)

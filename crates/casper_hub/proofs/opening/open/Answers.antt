@@ -2,20 +2,40 @@ use Rattle.std.proofs.Common.{◌<◌, List, length, Contains, subst, arith}
 use Rattle.casper_words.specs.declared.page.Want.{Want}
 use Rattle.casper_hub.specs.Given.{topped}
 use Rattle.casper_hub.proofs.Recorded.{asks_beside_cap, opens_recorded, own_given, gives_recorded, sound_opened}
+use Rattle.casper_hub.specs.HubFields.{hub_of}
+use Rattle.casper_hub.proofs.Whole.{within_sound, cap_within, cap_fits, pending_within}
 use Rattle.casper_hub.proofs.opening.open.Goals as goal
+
+pub free_room-free-requires : goal.free_room-free-requires
+free_room-free-requires c = within_sound (hub_of c.args.trail.now.items c.args.limit c.args.clients.now c.args.pages.now) c.requires.sound
+
+pub record-requires-clause-limit : goal.record-requires-clause-limit
+record-requires-clause-limit c =
+    let within = cap_within (hub_of c.args.trail.now.items c.args.limit c.args.clients.now c.args.pages.now) c.args.who c.requires.covers.client c.requires.sound in
+    let pending = pending_within c.args.cache.now c.requires.own in
+    let cap = c.requires.cap in
+    let limit = c.requires.limit in
+    omega (arith, within, pending, cap, limit)
+
+pub record-requires-clause-fits : goal.record-requires-clause-fits
+record-requires-clause-fits c =
+    let fits = cap_fits (hub_of c.args.trail.now.items c.args.limit c.args.clients.now c.args.pages.now) c.args.who c.requires.covers.client c.requires.sound in
+    let cap = c.requires.cap in
+    let free = c.free_room-free.ensures in
+    omega (arith, fits, cap, free)
 
 pub meet_all-requires-clause-asked : goal.meet_all-requires-clause-asked
 meet_all-requires-clause-asked c other ask inside =
     let most = c.requires.covers.client.1 in
-    let long = c.requires.sound.places in
+    let long = c.requires.sound.formed.places in
     let within : c.args.who < length c.args.clients.now = omega arith in
-    c.requires.sound.asked other ask (subst (λ (asks : List Want). Contains asks ask)
+    c.requires.sound.formed.asked other ask (subst (λ (asks : List Want). Contains asks ask)
     (asks_beside_cap c.args.clients.now c.record.new.clients c.args.who (topped c.args.cache.now c.free_room-free.result) within c.record.ensures.clients other) inside)
 
 pub returns-clause-opens : goal.returns-clause-opens
 returns-clause-opens c =
     let most = c.requires.covers.client.1 in
-    let long = c.requires.sound.places in
+    let long = c.requires.sound.formed.places in
     let within : c.args.who < length c.args.clients.now = omega arith in
     opens_recorded c.args.who c.args.limit c.free_room-free.result c.args.trail.now.items c.record.new.trail.items c.args.clients.now c.record.new.clients
     c.args.pages.now c.meet_all.new.pages c.args.cache.now c.record.new.cache c.meet_all.new.cache within c.free_room-free.ensures

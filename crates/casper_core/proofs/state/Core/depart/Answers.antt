@@ -10,7 +10,7 @@ use Rattle.casper_core.specs.Shaped.{StepsInShape}
 use Rattle.casper_core.specs.Sound.{IsSound}
 use Rattle.casper_core.specs.Stepping.{Steps}
 use Rattle.casper_core.proofs.CoreTurns.{found_at, put_back}
-use Rattle.casper_core.proofs.Departs.{set_again, depart_absent, absent_depart_made, departed, sound_depart, depart_steps, depart_made}
+use Rattle.casper_core.proofs.Departs.{set_again, depart_absent, absent_depart_made, sound_depart, depart_steps, depart_made}
 use Rattle.casper_core.proofs.state.Core.depart.Goals as goal
 
 pub returns-in_default-clause-step : goal.returns-in_default-clause-step
@@ -109,7 +109,7 @@ invariant_of-self-in-Ok g c =
     let left = ensured.absent c.in-Ok.is in
     let twice = set_again core.caches c.number-place.result (Some c.depart.new.cache) None in
     subst (λ caches. IsSound (record (placed core c.number-place.result c.depart.new.self None core.calls core.vault core.size core.told) { caches = caches })) (sym twice)
-    (sound_depart core c.number-place.result c.args.who same client sound c.in-Some.cache found c.depart.new.self c.depart.new.cache c.in_ok-reply.reply ensured.turn left ensured.client_after ensured.others ensured.sound
+    (sound_depart core c.number-place.result c.args.who same client sound c.in-Some.cache found c.depart.new.self c.depart.new.cache c.in_ok-reply.reply ensured.departed ensured.turn left ensured.client_after ensured.others ensured.sound
     core.calls core.vault core.size core.told refl sound.sure)
 
 pub returns-in-Ok-clause-step : goal.returns-in-Ok-clause-step
@@ -135,7 +135,7 @@ returns-in-Ok-clause-step g c = λ told.
     subst (λ one. Steps (event.Depart c.args.who) answer.Left one (record after { caches = slice_set (slice_set core.caches c.number-place.result (Some c.depart.new.cache)) c.number-place.result None })) c.self.view_is
     (subst (λ caches. Steps (event.Depart c.args.who) answer.Left core (record after { caches = caches })) (sym twice)
     (subst (λ said. Steps (event.Depart c.args.who) said core after) (ap of_depart c.in-Ok.is)
-    (depart_steps core c.number-place.result c.args.who same client sound c.in-Some.cache found c.depart.new.self c.depart.new.cache c.in_ok-reply.reply ensured.turn left ensured.client_after ensured.others ensured.sound
+    (depart_steps core c.number-place.result c.args.who same client sound c.in-Some.cache found c.depart.new.self c.depart.new.cache c.in_ok-reply.reply ensured.departed ensured.turn left ensured.client_after ensured.others ensured.sound
     core.calls core.vault core.size core.told ensured.frames refl)))
 
 pub returns-in-Ok-clause-shape : goal.returns-in-Ok-clause-shape
@@ -161,7 +161,7 @@ returns-in-Ok-clause-shape g c =
     subst (λ one. StepsInShape (event.Depart c.args.who) answer.Left one (record after { caches = slice_set (slice_set core.caches c.number-place.result (Some c.depart.new.cache)) c.number-place.result None })) c.self.view_is
     (subst (λ caches. StepsInShape (event.Depart c.args.who) answer.Left core (record after { caches = caches })) (sym twice)
     (subst (λ said. StepsInShape (event.Depart c.args.who) said core after) (ap of_depart c.in-Ok.is)
-    (depart_made core c.number-place.result c.args.who same client sound c.in-Some.cache found c.depart.new.self c.depart.new.cache c.in_ok-reply.reply ensured.turn left ensured.client_after ensured.others ensured.sound
+    (depart_made core c.number-place.result c.args.who same client sound c.in-Some.cache found c.depart.new.self c.depart.new.cache c.in_ok-reply.reply ensured.departed ensured.turn left ensured.client_after ensured.others ensured.sound
     core.calls core.vault core.size core.told)))
 
 pub returns-in-Ok-clause-sound : goal.returns-in-Ok-clause-sound
@@ -184,7 +184,7 @@ returns-in-Ok-clause-sound g c =
     let left = ensured.absent c.in-Ok.is in
     let twice = set_again core.caches c.number-place.result (Some c.depart.new.cache) None in
     subst (λ caches. IsSound (record (placed core c.number-place.result c.depart.new.self None core.calls core.vault core.size core.told) { caches = caches })) (sym twice)
-    (sound_depart core c.number-place.result c.args.who same client sound c.in-Some.cache found c.depart.new.self c.depart.new.cache c.in_ok-reply.reply ensured.turn left ensured.client_after ensured.others ensured.sound
+    (sound_depart core c.number-place.result c.args.who same client sound c.in-Some.cache found c.depart.new.self c.depart.new.cache c.in_ok-reply.reply ensured.departed ensured.turn left ensured.client_after ensured.others ensured.sound
     core.calls core.vault core.size core.told refl sound.sure)
 
 pub invariant_of-self-in_default-reply : goal.invariant_of-self-in_default-reply
@@ -204,61 +204,16 @@ invariant_of-self-in_default-reply g c =
     let below : c.args.who < length core.caches = omega (arith, client.1, sound.places) in
     let found = found_at core.caches c.number-place.result c.args.who c.index_mut.result.now (Some c.in-Some.cache) same below c.index_mut.ensures.value c.in-Some.is in
     let ensured = c.in_ok-reply.ensures in
-    absurd (c.in_default-reply.not-Ok (departed core c.number-place.result c.args.who same client sound c.in-Some.cache found c.depart.new.self c.depart.new.cache c.in_ok-reply.reply ensured.turn))
+    absurd (c.in_default-reply.not-Ok c.in_ok-reply.ensures.departed)
 
 pub returns-clause-step : goal.returns-clause-step
 returns-clause-step g c =
-    let core : CoreView g.row.V.Denot = record {
-      hub = c.self.inside.hub;
-      caches = c.self.inside.caches.items;
-      capacity = c.self.inside.capacity;
-      calls = c.self.inside.calls;
-      vault = c.self.inside.vault;
-      size = g.V.Vault.size c.self.inside.vault;
-      told = told_by g.V.Vault.image g.V.Vault.version g.V.Vault.room g.V.Vault.doubt c.self.inside.vault;
-    } in
-    let sound : IsSound core = c.self.invariant in
-    let same = c.number-place.ensures.number in
-    let client : IsClient c.args.who = subst IsClient same (c.number-place.ensures.least, c.number-place.ensures.most) in
-    let below : c.args.who < length core.caches = omega (arith, client.1, sound.places) in
-    let found = found_at core.caches c.number-place.result c.args.who c.index_mut.result.now (Some c.in-Some.cache) same below c.index_mut.ensures.value c.in-Some.is in
-    let ensured = c.in_ok-reply.ensures in
-    absurd (c.in_default-reply.not-Ok (departed core c.number-place.result c.args.who same client sound c.in-Some.cache found c.depart.new.self c.depart.new.cache c.in_ok-reply.reply ensured.turn))
+    absurd (c.in_default-reply.not-Ok c.in_ok-reply.ensures.departed)
 
 pub returns-clause-shape : goal.returns-clause-shape
 returns-clause-shape g c =
-    let core : CoreView g.row.V.Denot = record {
-      hub = c.self.inside.hub;
-      caches = c.self.inside.caches.items;
-      capacity = c.self.inside.capacity;
-      calls = c.self.inside.calls;
-      vault = c.self.inside.vault;
-      size = g.V.Vault.size c.self.inside.vault;
-      told = told_by g.V.Vault.image g.V.Vault.version g.V.Vault.room g.V.Vault.doubt c.self.inside.vault;
-    } in
-    let sound : IsSound core = c.self.invariant in
-    let same = c.number-place.ensures.number in
-    let client : IsClient c.args.who = subst IsClient same (c.number-place.ensures.least, c.number-place.ensures.most) in
-    let below : c.args.who < length core.caches = omega (arith, client.1, sound.places) in
-    let found = found_at core.caches c.number-place.result c.args.who c.index_mut.result.now (Some c.in-Some.cache) same below c.index_mut.ensures.value c.in-Some.is in
-    let ensured = c.in_ok-reply.ensures in
-    absurd (c.in_default-reply.not-Ok (departed core c.number-place.result c.args.who same client sound c.in-Some.cache found c.depart.new.self c.depart.new.cache c.in_ok-reply.reply ensured.turn))
+    absurd (c.in_default-reply.not-Ok c.in_ok-reply.ensures.departed)
 
 pub returns-clause-sound : goal.returns-clause-sound
 returns-clause-sound g c =
-    let core : CoreView g.row.V.Denot = record {
-      hub = c.self.inside.hub;
-      caches = c.self.inside.caches.items;
-      capacity = c.self.inside.capacity;
-      calls = c.self.inside.calls;
-      vault = c.self.inside.vault;
-      size = g.V.Vault.size c.self.inside.vault;
-      told = told_by g.V.Vault.image g.V.Vault.version g.V.Vault.room g.V.Vault.doubt c.self.inside.vault;
-    } in
-    let sound : IsSound core = c.self.invariant in
-    let same = c.number-place.ensures.number in
-    let client : IsClient c.args.who = subst IsClient same (c.number-place.ensures.least, c.number-place.ensures.most) in
-    let below : c.args.who < length core.caches = omega (arith, client.1, sound.places) in
-    let found = found_at core.caches c.number-place.result c.args.who c.index_mut.result.now (Some c.in-Some.cache) same below c.index_mut.ensures.value c.in-Some.is in
-    let ensured = c.in_ok-reply.ensures in
-    absurd (c.in_default-reply.not-Ok (departed core c.number-place.result c.args.who same client sound c.in-Some.cache found c.depart.new.self c.depart.new.cache c.in_ok-reply.reply ensured.turn))
+    absurd (c.in_default-reply.not-Ok c.in_ok-reply.ensures.departed)

@@ -1,7 +1,7 @@
 use Rattle.std.proofs.Common.{subst}
 use Rattle.casper_model.specs.State.{State}
 use Rattle.casper_core.specs.CoreView.{CoreView, told_by}
-use Rattle.casper_core.specs.Shaped.{HasShapeOf}
+use Rattle.casper_core.specs.Shaped.{RepresentsButWords}
 use Rattle.casper_core.specs.Sound.{IsSound}
 use Rattle.casper_core.proofs.ShapedRuns.{some_state}
 use Rattle.casper_core.proofs.state.Core.hub.Goals as goal
@@ -18,4 +18,4 @@ returns-clause-shape g c =
       told = told_by g.V.Vault.image g.V.Vault.version g.V.Vault.room g.V.Vault.doubt c.self.inside.vault;
     } in
     let sound : IsSound core = c.self.invariant in
-    subst (λ one. (state : State) × HasShapeOf state one) c.self.view_is (some_state core sound)
+    subst (λ one. (state : State) × RepresentsButWords state one) c.self.view_is (some_state core sound)

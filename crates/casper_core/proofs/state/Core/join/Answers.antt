@@ -73,7 +73,7 @@ invariant_of-self-2 g c =
     let client : IsClient c.args.who = subst IsClient c.number-place.ensures.number (c.number-place.ensures.least, c.number-place.ensures.most) in
     let own_is : c.allow.new.self ≡ record { client = c.args.who; capacity = core.capacity; held = []; pending = []; cap = cap_in c.join.new.self c.args.who } =
     c.allow.ensures.allowed ∙ ap₂ (λ (own : cache.Own) count. record own { cap = count }) c.in_ok-cache.ensures.value c.cap.ensures in
-    sound_join core c.args.who client sound c.join.new.self c.allow.new.self own_is c.allow.ensures.sound c.in_default.field-0 c.in_default.ensures.turn c.in_default.ensures.live c.in_default.ensures.rights
+    sound_join core c.args.who client sound c.join.new.self c.allow.new.self own_is c.allow.ensures.sound c.in_default.field-0 c.in_default.ensures.turn c.in_default.ensures.live c.in_default.ensures.owned
     c.in_default.ensures.others c.in_default.ensures.sound c.number-place.result c.number-place.ensures.number
 
 pub returns-clause-step : goal.returns-clause-step
@@ -92,7 +92,7 @@ returns-clause-step g c = λ told.
     let own_is : c.allow.new.self ≡ record { client = c.args.who; capacity = core.capacity; held = []; pending = []; cap = cap_in c.join.new.self c.args.who } =
     c.allow.ensures.allowed ∙ ap₂ (λ (own : cache.Own) count. record own { cap = count }) c.in_ok-cache.ensures.value c.cap.ensures in
     subst (λ one. Steps (event.Join c.args.who) answer.Joined one (placed core c.number-place.result c.join.new.self (Some c.allow.new.self) core.calls core.vault core.size core.told)) c.self.view_is
-    (join_steps core c.args.who client sound c.join.new.self c.allow.new.self own_is c.allow.ensures.sound c.in_default.field-0 c.in_default.ensures.turn c.in_default.ensures.live c.in_default.ensures.rights
+    (join_steps core c.args.who client sound c.join.new.self c.allow.new.self own_is c.allow.ensures.sound c.in_default.field-0 c.in_default.ensures.turn c.in_default.ensures.live c.in_default.ensures.owned
     c.in_default.ensures.others c.in_default.ensures.sound c.in_default.ensures.frames c.number-place.result c.number-place.ensures.number)
 
 pub returns-clause-shape : goal.returns-clause-shape
@@ -111,7 +111,7 @@ returns-clause-shape g c =
     let own_is : c.allow.new.self ≡ record { client = c.args.who; capacity = core.capacity; held = []; pending = []; cap = cap_in c.join.new.self c.args.who } =
     c.allow.ensures.allowed ∙ ap₂ (λ (own : cache.Own) count. record own { cap = count }) c.in_ok-cache.ensures.value c.cap.ensures in
     subst (λ one. StepsInShape (event.Join c.args.who) answer.Joined one (placed core c.number-place.result c.join.new.self (Some c.allow.new.self) core.calls core.vault core.size core.told)) c.self.view_is
-    (join_made core c.args.who client sound c.join.new.self c.allow.new.self own_is c.allow.ensures.sound c.in_default.field-0 c.in_default.ensures.turn c.in_default.ensures.live c.in_default.ensures.rights
+    (join_made core c.args.who client sound c.join.new.self c.allow.new.self own_is c.allow.ensures.sound c.in_default.field-0 c.in_default.ensures.turn c.in_default.ensures.live c.in_default.ensures.owned
     c.in_default.ensures.others c.in_default.ensures.sound c.number-place.result c.number-place.ensures.number)
 
 pub returns-clause-sound : goal.returns-clause-sound
@@ -129,5 +129,5 @@ returns-clause-sound g c =
     let client : IsClient c.args.who = subst IsClient c.number-place.ensures.number (c.number-place.ensures.least, c.number-place.ensures.most) in
     let own_is : c.allow.new.self ≡ record { client = c.args.who; capacity = core.capacity; held = []; pending = []; cap = cap_in c.join.new.self c.args.who } =
     c.allow.ensures.allowed ∙ ap₂ (λ (own : cache.Own) count. record own { cap = count }) c.in_ok-cache.ensures.value c.cap.ensures in
-    sound_join core c.args.who client sound c.join.new.self c.allow.new.self own_is c.allow.ensures.sound c.in_default.field-0 c.in_default.ensures.turn c.in_default.ensures.live c.in_default.ensures.rights
+    sound_join core c.args.who client sound c.join.new.self c.allow.new.self own_is c.allow.ensures.sound c.in_default.field-0 c.in_default.ensures.turn c.in_default.ensures.live c.in_default.ensures.owned
     c.in_default.ensures.others c.in_default.ensures.sound c.number-place.result c.number-place.ensures.number

@@ -4,13 +4,13 @@ use Rattle.casper_space.specs.declared.answer.Answer.TheVariants as answer
 use Rattle.casper_words.specs.Crew.{IsClient}
 use Rattle.casper_model.specs.State.{State}
 use Rattle.casper_core.specs.CoreView.{CoreView, told_by}
-use Rattle.casper_core.specs.Acting.{Does}
+use Rattle.casper_core.specs.Acting.{RefinesTurn}
 use Rattle.casper_core.specs.ClientTurns.{client_turn}
 use Rattle.casper_core.specs.Loading.{OnlyLoads}
 use Rattle.casper_core.specs.Placing.{placed}
-use Rattle.casper_core.specs.Shaped.{Makes, StepsInShape, client_turn_with}
+use Rattle.casper_core.specs.Shaped.{RefinesTurnButValues, StepsInShape, client_turn_with}
 use Rattle.casper_core.specs.Sound.{IsSound}
-use Rattle.casper_core.specs.Stands.{Stands}
+use Rattle.casper_core.specs.Represents.{Represents}
 use Rattle.casper_core.specs.Stepping.{Steps}
 use Rattle.casper_core.proofs.CoreTurns.{found_at, put_back, if_ok, on_err, both_errs, absent_turn, absent_made, sound_turn, turn_steps, turn_made, turn_unchanged}
 use Rattle.casper_core.proofs.state.Core.turn.Given as given
@@ -137,7 +137,7 @@ returns-clause-step g c = λ told.
     let found = found_at core.caches c.number.result c.args.who c.index_mut.result.now (Some c.in-Some.cache) c.number.ensures.number below c.index_mut.ensures.value c.in-Some.is in
     let after : CoreView g.row.V.Denot = placed core c.number.result c.act.new.hub (Some c.act.new.cache) c.self.inside.calls c.act.new.vault (g.V.Vault.size c.act.new.vault)
     (told_by g.V.Vault.image g.V.Vault.version g.V.Vault.room g.V.Vault.doubt c.act.new.vault) in
-    if_ok c.act.result (λ answer. Does c.args.who g.V.Vault.tells core.told.image (client_turn c.args.who c.args.event.now) core.hub c.in-Some.cache answer c.act.new.hub c.act.new.cache)
+    if_ok c.act.result (λ answer. RefinesTurn c.args.who g.V.Vault.tells core.told.image (client_turn c.args.who c.args.event.now) core.hub c.in-Some.cache answer c.act.new.hub c.act.new.cache)
     (λ answer. Steps c.args.event.now answer c.args.self.now after) c.act.ensures.does
     (λ answer does. subst (λ one. Steps c.args.event.now answer one after) c.self.view_is
     (turn_steps core c.number.result c.args.who c.number.ensures.number client sound c.in-Some.cache found g.V.Vault.tells c.act.new.hub c.act.new.cache c.self.inside.calls c.act.new.vault
@@ -161,7 +161,7 @@ returns-clause-shape g c =
     let found = found_at core.caches c.number.result c.args.who c.index_mut.result.now (Some c.in-Some.cache) c.number.ensures.number below c.index_mut.ensures.value c.in-Some.is in
     let after : CoreView g.row.V.Denot = placed core c.number.result c.act.new.hub (Some c.act.new.cache) c.self.inside.calls c.act.new.vault (g.V.Vault.size c.act.new.vault)
     (told_by g.V.Vault.image g.V.Vault.version g.V.Vault.room g.V.Vault.doubt c.act.new.vault) in
-    if_ok c.act.result (λ answer. Makes c.args.who (client_turn_with c.args.who c.args.event.now) core.hub c.in-Some.cache answer c.act.new.hub c.act.new.cache)
+    if_ok c.act.result (λ answer. RefinesTurnButValues c.args.who (client_turn_with c.args.who c.args.event.now) core.hub c.in-Some.cache answer c.act.new.hub c.act.new.cache)
     (λ answer. StepsInShape c.args.event.now answer c.args.self.now after) c.act.ensures.makes
     (λ answer makes. subst (λ one. StepsInShape c.args.event.now answer one after) c.self.view_is
     (turn_made core c.number.result c.args.who c.number.ensures.number client sound c.in-Some.cache found g.V.Vault.tells c.act.new.hub c.act.new.cache c.self.inside.calls c.act.new.vault
@@ -185,9 +185,9 @@ returns-clause-stands g c = λ told.
     let found = found_at core.caches c.number.result c.args.who c.index_mut.result.now (Some c.in-Some.cache) c.number.ensures.number below c.index_mut.ensures.value c.in-Some.is in
     let after : CoreView g.row.V.Denot = placed core c.number.result c.act.new.hub (Some c.act.new.cache) c.self.inside.calls c.act.new.vault (g.V.Vault.size c.act.new.vault)
     (told_by g.V.Vault.image g.V.Vault.version g.V.Vault.room g.V.Vault.doubt c.act.new.vault) in
-    on_err c.act.result (OnlyLoads core.hub c.act.new.hub × (c.act.new.cache ≡ c.in-Some.cache)) ((state : State) → Stands state c.args.self.now → Stands state after)
+    on_err c.act.result (OnlyLoads core.hub c.act.new.hub × (c.act.new.cache ≡ c.in-Some.cache)) ((state : State) → Represents state c.args.self.now → Represents state after)
     (both_errs c.act.result (OnlyLoads core.hub c.act.new.hub) (c.act.new.cache ≡ c.in-Some.cache) c.act.ensures.memory c.act.ensures.cache_stays)
     (λ loads state stands.
     turn_unchanged core c.number.result c.args.who c.number.ensures.number client sound c.in-Some.cache found g.V.Vault.tells c.act.new.hub c.act.new.cache c.self.inside.calls c.act.new.vault
     (g.V.Vault.size c.act.new.vault) (told_by g.V.Vault.image g.V.Vault.version g.V.Vault.room g.V.Vault.doubt c.act.new.vault) c.act.ensures.leaves c.act.ensures.holds
-    told (c.act.ensures.vault.told told) loads.0 loads.1 state (subst (Stands state) (sym c.self.view_is) stands))
+    told (c.act.ensures.vault.told told) loads.0 loads.1 state (subst (Represents state) (sym c.self.view_is) stands))

@@ -1,33 +1,41 @@
-use Rattle.std.proofs.Common.{◌∙◌, List, sym, subst}
-use Rattle.casper_trail.specs.declared.item.Item.{Item}
+use Rattle.std.proofs.Common.{◌∙◌, sym, subst}
+use Rattle.casper_model.specs.declared.reply.Served.TheVariants as served
+use Rattle.casper_model.specs.Leave.{depart}
+use Rattle.casper_model.specs.Shared.{Shared}
+use Rattle.casper_turns.specs.Good.{IsGoodShared}
+use Rattle.casper_turns.specs.Kept.{KeptByTurn}
+use Rattle.casper_turns.specs.TurnLaws.{IsTurn as MachineTurn}
 use Rattle.casper_hub.specs.HubView.{HubView}
 use Rattle.casper_hub.specs.HubFields.{hub_of}
-use Rattle.casper_hub.specs.Apart.{Apart}
+use Rattle.casper_hub.specs.Owned.{own_of, Owns}
+use Rattle.casper_hub.specs.Shows.{Shows}
 use Rattle.casper_hub.specs.Sound.{IsSound}
-use Rattle.casper_hub.specs.Owned.{Owns}
 use Rattle.casper_hub.specs.Stages.{Opens, Leaves}
-use Rattle.casper_hub.proofs.ForClient.{covers_for, opens_for, covers_opened_for, rights_opened_for, leaves_for}
-use Rattle.casper_hub.proofs.Relying.{apart_itself}
-use Rattle.casper_hub.proofs.Opened.{begins_owned, opened_sound}
-use Rattle.casper_hub.proofs.Leaving.{left_sound, left_frames, left_apart, left_still}
+use Rattle.casper_hub.specs.Turns.{IsTurn}
+use Rattle.casper_hub.proofs.ForClient.{covers_for, opens_for, covers_opened_for, rights_opened_for, leaves_for, cap_for, kept_reserved, nothing_reserved}
+use Rattle.casper_hub.proofs.Leaving.{opened_before_leaving, left_formed, left_plain, left_frames}
 use Rattle.casper_hub.proofs.DepartedTurns.{depart_turn}
+use Rattle.casper_hub.proofs.Transport.{kept_by, stands_behind, keeps_others, keeps_still}
+use Rattle.casper_hub.proofs.Whole.{Whole, Owning, whole_at, owning}
 use Rattle.casper_hub.proofs.hub.Hub.depart.Goals as goal
 
 pub returns-in_err-reserve-clause-others : goal.returns-in_err-reserve-clause-others
 returns-in_err-reserve-clause-others c other differ =
-    subst (λ (h : HubView). Apart other h (hub_of c.reserve.new.self.items c.self.inside.limit c.self.inside.clients c.self.inside.pages)) c.self.view_is
-    (subst (λ (l : List Item). Apart other (hub_of c.self.inside.trail.items c.self.inside.limit c.self.inside.clients c.self.inside.pages)
-    (hub_of l c.self.inside.limit c.self.inside.clients c.self.inside.pages)) (sym c.reserve.ensures.items)
-    (apart_itself other (hub_of c.self.inside.trail.items c.self.inside.limit c.self.inside.clients c.self.inside.pages)))
+    kept_reserved c.args.self.now c.self.inside.limit c.reserve.new.self.items c.self.inside.trail.items c.self.inside.clients c.self.inside.pages c.self.view_is c.reserve.ensures.items other
+
+pub returns-in_err-reserve-clause-still : goal.returns-in_err-reserve-clause-still
+returns-in_err-reserve-clause-still c =
+    nothing_reserved c.args.self.now c.self.inside.limit c.reserve.new.self.items c.self.inside.trail.items c.self.inside.clients c.self.inside.pages c.self.view_is c.reserve.ensures.items
+
+pub open-requires-clause-cap : goal.open-requires-clause-cap
+open-requires-clause-cap c =
+    cap_for c.args.who (hub_of c.self.inside.trail.items c.self.inside.limit c.self.inside.clients c.self.inside.pages) c.args.cache.now c.requires.client c.self.invariant.0
+    (subst (λ (h : HubView). Owns h c.args.cache.now) (sym c.self.view_is) c.requires.owns)
 
 pub open-requires-clause-covers : goal.open-requires-clause-covers
 open-requires-clause-covers c =
-    covers_for c.args.who (hub_of c.self.inside.trail.items c.self.inside.limit c.self.inside.clients c.self.inside.pages) c.args.cache.now c.requires.client c.self.invariant.0
+    covers_for c.args.who (hub_of c.self.inside.trail.items c.self.inside.limit c.self.inside.clients c.self.inside.pages) c.args.cache.now c.requires.client c.self.invariant.0 c.self.invariant.1
     (subst (λ (h : HubView). Owns h c.args.cache.now) (sym c.self.view_is) c.requires.owns)
-
--- the hub as it was is sound
-sound_before : (c : goal.After-allow) → IsSound c.args.self.now
-sound_before c = subst (λ (h : HubView). IsSound h) c.self.view_is c.self.invariant.0
 
 -- and its turn has opened
 opens : (c : goal.After-allow) → Opens c.args.cache.now.client c.args.self.now c.args.cache.now (hub_of c.open.new.trail.items c.self.inside.limit c.open.new.clients c.open.new.pages) c.open.new.cache
@@ -36,14 +44,14 @@ opens c =
     (opens_for c.args.who c.self.inside.limit c.reserve.new.self.items c.self.inside.trail.items c.self.inside.clients c.self.inside.pages c.args.cache.now c.open.new.cache
     (hub_of c.open.new.trail.items c.self.inside.limit c.open.new.clients c.open.new.pages) c.requires.client c.reserve.ensures.items c.open.ensures.opens)
 
--- the hub behind the opening
+-- the hub after the opening
 abbrev opened : goal.After-allow → HubView
 opened c = hub_of c.open.new.trail.items c.self.inside.limit c.open.new.clients c.open.new.pages
 
 pub give_up_all-requires-clause-covers : goal.give_up_all-requires-clause-covers
 give_up_all-requires-clause-covers c =
     covers_opened_for c.args.who (hub_of c.self.inside.trail.items c.self.inside.limit c.self.inside.clients c.self.inside.pages) c.args.cache.now
-    (hub_of c.open.new.trail.items c.self.inside.limit c.open.new.clients c.open.new.pages) c.open.new.cache c.requires.client c.self.invariant.0
+    (hub_of c.open.new.trail.items c.self.inside.limit c.open.new.clients c.open.new.pages) c.open.new.cache c.requires.client c.self.invariant.0 c.self.invariant.1
     (subst (λ (h : HubView). Owns h c.args.cache.now) (sym c.self.view_is) c.requires.owns)
     (opens_for c.args.who c.self.inside.limit c.reserve.new.self.items c.self.inside.trail.items c.self.inside.clients c.self.inside.pages c.args.cache.now c.open.new.cache
     (hub_of c.open.new.trail.items c.self.inside.limit c.open.new.clients c.open.new.pages) c.requires.client c.reserve.ensures.items c.open.ensures.opens)
@@ -51,12 +59,12 @@ give_up_all-requires-clause-covers c =
 pub give_up_all-requires-clause-all : goal.give_up_all-requires-clause-all
 give_up_all-requires-clause-all c =
     rights_opened_for c.args.who (hub_of c.self.inside.trail.items c.self.inside.limit c.self.inside.clients c.self.inside.pages) c.args.cache.now
-    (hub_of c.open.new.trail.items c.self.inside.limit c.open.new.clients c.open.new.pages) c.open.new.cache c.requires.client c.self.invariant.0
+    (hub_of c.open.new.trail.items c.self.inside.limit c.open.new.clients c.open.new.pages) c.open.new.cache c.requires.client c.self.invariant.0 c.self.invariant.1
     (subst (λ (h : HubView). Owns h c.args.cache.now) (sym c.self.view_is) c.requires.owns)
     (opens_for c.args.who c.self.inside.limit c.reserve.new.self.items c.self.inside.trail.items c.self.inside.clients c.self.inside.pages c.args.cache.now c.open.new.cache
     (hub_of c.open.new.trail.items c.self.inside.limit c.open.new.clients c.open.new.pages) c.requires.client c.reserve.ensures.items c.open.ensures.opens)
 
--- the hub behind the turn
+-- the hub after the turn
 abbrev after : goal.After-allow → HubView
 after c = hub_of c.open.new.trail.items c.self.inside.limit c.leave.new.self c.give_up_all.new.pages
 
@@ -67,27 +75,48 @@ leaves c =
     c.open.new.cache c.give_up_all.new.cache c.allow.new.self c.requires.client (opens c) c.give_up_all.ensures.gives c.give_up_all.ensures.all c.give_up_all.ensures.cache
     c.leave.ensures c.allow.ensures.allowed
 
+-- the hub as it was
+whole_before : (c : goal.After-allow) → Whole c.args.self.now
+whole_before c = whole_at (hub_of c.self.inside.trail.items c.self.inside.limit c.self.inside.clients c.self.inside.pages) c.args.self.now c.self.view_is c.self.invariant.0 c.self.invariant.1
+
+owning_before : (c : goal.After-allow) → Owning c.args.self.now c.args.cache.now
+owning_before c = owning c.args.self.now c.args.cache.now (whole_before c).sound c.requires.owns
+
+turn : (c : goal.After-allow) → IsTurn depart served.Ok c.args.self.now c.args.cache.now (after c) c.allow.new.self
+turn c =
+    depart_turn c.args.self.now c.args.cache.now (after c) c.allow.new.self (whole_before c) (owning_before c) (leaves c)
+    (opened_before_leaving c.args.self.now c.args.cache.now (after c) c.allow.new.self (whole_before c) (owning_before c) (leaves c))
+
+keeps : (c : goal.After-allow) (shared : Shared) → Shows shared c.args.self.now → IsGoodShared shared
+    → KeptByTurn shared (own_of c.args.cache.now) (depart shared (own_of c.args.cache.now)).shared (depart shared (own_of c.args.cache.now)).own
+keeps c = kept_by depart c.args.self.now c.args.cache.now c.requires.owns (λ shared one live. MachineTurn.departing live)
+
+sound_after : (c : goal.After-allow) → IsSound (after c)
+sound_after c = record {
+  formed = left_formed c.args.self.now c.args.cache.now (after c) c.allow.new.self (whole_before c) (owning_before c) (leaves c);
+  stands = stands_behind depart c.args.self.now c.args.cache.now (after c) (turn c).shows (keeps c) (whole_before c).sound.stands;
+}
+
 pub invariant_of-self-2 : goal.invariant_of-self-2
 invariant_of-self-2 c = (
-  left_sound c.args.self.now c.args.cache.now (after c) c.allow.new.self (sound_before c) c.requires.owns (leaves c),
-  c.open.ensures.limit ∙ c.reserve.ensures.limit ∙ c.self.invariant.1,
+  sound_after c,
+  left_plain c.args.self.now c.args.cache.now (after c) c.allow.new.self (whole_before c) (owning_before c) (leaves c),
+  c.open.ensures.limit ∙ c.reserve.ensures.limit ∙ c.self.invariant.2,
 )
 
 pub returns-clause-turn : goal.returns-clause-turn
-returns-clause-turn c =
-    depart_turn c.args.self.now c.args.cache.now (after c) c.allow.new.self (sound_before c) c.requires.owns (leaves c)
-    (opened_sound c.args.cache.now.client c.args.self.now c.args.cache.now (leaves c).opened (leaves c).opened_own
-    (begins_owned c.args.self.now c.args.cache.now (sound_before c) c.requires.owns) (leaves c).opens)
+returns-clause-turn c = turn c
 
 pub returns-clause-frames : goal.returns-clause-frames
-returns-clause-frames c base frames words = left_frames base c.args.self.now c.args.cache.now (after c) c.allow.new.self (sound_before c) c.requires.owns (leaves c) frames words
+returns-clause-frames c base frames words =
+    left_frames base c.args.self.now c.args.cache.now (after c) c.allow.new.self (whole_before c) (owning_before c) (leaves c) frames words
 
 pub returns-clause-others : goal.returns-clause-others
 returns-clause-others c other differ =
-    left_apart other c.args.self.now c.args.cache.now (after c) c.allow.new.self (sound_before c) c.requires.owns (leaves c) (λ same. differ (same ∙ c.requires.client))
+    keeps_others depart c.args.self.now c.args.cache.now (after c) (turn c).shows (keeps c) other (λ same. differ (same ∙ c.requires.client))
 
 pub returns-clause-still : goal.returns-clause-still
-returns-clause-still c = left_still c.args.self.now c.args.cache.now (after c) c.allow.new.self (sound_before c) c.requires.owns (leaves c)
+returns-clause-still c = keeps_still depart c.args.self.now c.args.cache.now (after c) (turn c).shows (keeps c)
 
 pub returns-clause-sound : goal.returns-clause-sound
-returns-clause-sound c = (invariant_of-self-2 c).0
+returns-clause-sound c = sound_after c

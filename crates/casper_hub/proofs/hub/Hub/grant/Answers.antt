@@ -10,6 +10,29 @@ use Rattle.casper_hub.specs.Installing.{with_pages}
 use Rattle.casper_hub.specs.Stages.{CanGrant}
 use Rattle.casper_hub.proofs.Passing.{contains_passing}
 use Rattle.casper_hub.proofs.Installed.{begins_installed, missing_framed}
+use Rattle.std.proofs.Common.{◌+◌, arith}
+use Rattle.casper_model.specs.declared.reply.Reply.{Reply}
+use Rattle.casper_model.specs.declared.reply.Reply.TheVariants.{Granted}
+use Rattle.casper_model.specs.Acquire.{acquire}
+use Rattle.casper_model.specs.Both.{Turned}
+use Rattle.casper_model.specs.Own as machine
+use Rattle.casper_model.specs.Shared.{Shared}
+use Rattle.casper_turns.specs.Good.{IsGoodShared}
+use Rattle.casper_turns.specs.Kept.{KeptByTurn}
+use Rattle.casper_turns.specs.TurnLaws.{IsTurn as MachineTurn}
+use Rattle.casper_hub.specs.HubView.{free_in}
+use Rattle.casper_hub.specs.Given.{topped}
+use Rattle.casper_hub.specs.Owned.{own_of}
+use Rattle.casper_hub.specs.Shows.{Shows}
+use Rattle.casper_hub.specs.Sound.{IsSound}
+use Rattle.casper_hub.specs.Turns.{IsTurn, Acquires}
+use Rattle.casper_hub.proofs.ForClient.{cap_for, kept_reserved, nothing_reserved}
+use Rattle.casper_hub.proofs.AcquiredHere.{nobody_blocks, room_for}
+use Rattle.casper_hub.proofs.GrantedTurns.{grant_turn}
+use Rattle.casper_hub.proofs.Granting.{Granting, opened_is_sound, granted_formed, granted_plain, live_granted, granted_cache, granted_few, granted_frames, granted_words}
+use Rattle.casper_hub.proofs.MissingStays.{granted_held_is}
+use Rattle.casper_hub.proofs.Transport.{kept_by, stands_behind, keeps_others, keeps_still, owns_behind}
+use Rattle.casper_hub.proofs.Whole.{whole, owning}
 use Rattle.casper_hub.proofs.hub.Hub.grant.Goals as goal
 use Rattle.std.proofs.Common.{◌≤◌, ◌-◌, ℕ, [], IsSome, refl}
 use Rattle.std.specs.Prelude.{slice_set}
@@ -17,9 +40,39 @@ use Rattle.casper_dir.specs.Rights.{right_at, conflicts_at}
 use Rattle.casper_cache.specs.declared.held.Held.{Held}
 use Rattle.casper_cache.specs.Holding.{right_of}
 use Rattle.casper_hub.specs.HubView.{place_in, with_asks}
-use Rattle.casper_hub.specs.Stages.{Grants}
-use Rattle.casper_hub.proofs.Grants.{Made, granted_turn, made_sound, fronted_held}
+use Rattle.casper_hub.proofs.Grants.{Made, granting_made, fronted_held, room_ready}
+use Rattle.casper_trail.specs.TrailView.{entry_count}
 use Rattle.casper_hub.proofs.Ready.{Ready, GivesRights, ready_for, installed_sound, missing_held, missing_free, wanted_held, covers_given, rights_given}
+
+pub returns-in_err-reserve-clause-others : goal.returns-in_err-reserve-clause-others
+returns-in_err-reserve-clause-others c other differ =
+    kept_reserved c.args.self.now c.self.inside.limit c.reserve.new.self.items c.self.inside.trail.items c.self.inside.clients c.self.inside.pages c.self.view_is c.reserve.ensures.items other
+
+pub returns-in_err-reserve-clause-still : goal.returns-in_err-reserve-clause-still
+returns-in_err-reserve-clause-still c =
+    nothing_reserved c.args.self.now c.self.inside.limit c.reserve.new.self.items c.self.inside.trail.items c.self.inside.clients c.self.inside.pages c.self.view_is c.reserve.ensures.items
+
+pub returns-in_err-install-clause-others : goal.returns-in_err-install-clause-others
+returns-in_err-install-clause-others c other differ =
+    kept_reserved c.args.self.now c.self.inside.limit c.reserve.new.self.items c.self.inside.trail.items c.self.inside.clients c.self.inside.pages c.self.view_is c.reserve.ensures.items other
+
+pub returns-in_err-install-clause-still : goal.returns-in_err-install-clause-still
+returns-in_err-install-clause-still c =
+    nothing_reserved c.args.self.now c.self.inside.limit c.reserve.new.self.items c.self.inside.trail.items c.self.inside.clients c.self.inside.pages c.self.view_is c.reserve.ensures.items
+
+pub open-requires-clause-cap : goal.open-requires-clause-cap
+open-requires-clause-cap c =
+    cap_for c.args.who (hub_of c.self.inside.trail.items c.self.inside.limit c.self.inside.clients c.self.inside.pages) c.args.cache.now c.requires.client c.self.invariant.0
+    (subst (λ (h : HubView). Owns h c.args.cache.now) (sym c.self.view_is) c.requires.owns)
+    ∙ sym (ap (λ (o : cache.Own). o.cap) c.in_ok-install.ensures.ok)
+
+pub grant-requires-clause-limit : goal.grant-requires-clause-limit
+grant-requires-clause-limit c =
+    subst (λ n. entry_count c.open.new.trail.items + length c.as_slice-missing.result.now ≤ n) (sym (c.open.ensures.limit ∙ c.reserve.ensures.limit ∙ c.self.invariant.2))
+    (room_ready (hub_of c.self.inside.trail.items c.self.inside.limit c.self.inside.clients c.self.inside.pages) c.args.cache.now c.args.wants.now c.as_slice-missing.result.now (hub_of c.open.new.trail.items c.self.inside.limit c.open.new.clients c.open.new.pages) c.open.new.cache
+    (ready_for c.args.who c.self.inside.limit c.args.self.now c.args.cache.now c.install.new.cache c.open.new.cache c.args.wants.now c.args.missing.now c.as_slice-missing.result.now c.reserve.new.self.items c.self.inside.trail.items
+    c.self.inside.clients c.self.inside.pages (hub_of c.open.new.trail.items c.self.inside.limit c.open.new.clients c.open.new.pages)
+    c.self.view_is c.requires.client c.self.invariant.0 c.self.invariant.1 c.requires.owns c.requires.grants c.as_slice-missing.ensures.wants c.reserve.ensures.items c.in_ok-install.ensures.ok c.open.ensures.opens))
 
 pub install-requires-clause-pages : goal.install-requires-clause-pages
 install-requires-clause-pages c want inside =
@@ -38,8 +91,9 @@ pub open-requires-clause-covers : goal.open-requires-clause-covers
 open-requires-clause-covers c =
     subst (λ (own : cache.Own). Covers c.args.who c.self.inside.pages own.held) (sym c.in_ok-install.ensures.ok)
     (subst (λ who. Covers who c.self.inside.pages (with_pages c.self.inside.pages c.args.cache.now.held c.as_slice-missing.result.now)) c.requires.client
-    (begins_installed (hub_of c.self.inside.trail.items c.self.inside.limit c.self.inside.clients c.self.inside.pages) c.args.cache.now c.as_slice-missing.result.now c.self.invariant.0
-    (subst (λ (h : HubView). Owns h c.args.cache.now) (sym c.self.view_is) c.requires.owns)).covers)
+    (begins_installed (hub_of c.self.inside.trail.items c.self.inside.limit c.self.inside.clients c.self.inside.pages) c.args.cache.now c.as_slice-missing.result.now
+    (whole (hub_of c.self.inside.trail.items c.self.inside.limit c.self.inside.clients c.self.inside.pages) c.self.invariant.0 c.self.invariant.1)
+    (owning (hub_of c.self.inside.trail.items c.self.inside.limit c.self.inside.clients c.self.inside.pages) c.args.cache.now c.self.invariant.0 (subst (λ (h : HubView). Owns h c.args.cache.now) (sym c.self.view_is) c.requires.owns))).covers)
 
 pub grant-requires-clause-pages : goal.grant-requires-clause-pages
 grant-requires-clause-pages c want inside =
@@ -61,7 +115,7 @@ grant-requires-clause-held c want inside =
     missing_held (hub_of c.self.inside.trail.items c.self.inside.limit c.self.inside.clients c.self.inside.pages) c.args.cache.now c.args.wants.now c.as_slice-missing.result.now (hub_of c.open.new.trail.items c.self.inside.limit c.open.new.clients c.open.new.pages) c.open.new.cache
     (ready_for c.args.who c.self.inside.limit c.args.self.now c.args.cache.now c.install.new.cache c.open.new.cache c.args.wants.now c.args.missing.now c.as_slice-missing.result.now c.reserve.new.self.items c.self.inside.trail.items
     c.self.inside.clients c.self.inside.pages (hub_of c.open.new.trail.items c.self.inside.limit c.open.new.clients c.open.new.pages)
-    c.self.view_is c.requires.client c.self.invariant.0 c.requires.owns c.requires.grants c.as_slice-missing.ensures.wants c.reserve.ensures.items c.in_ok-install.ensures.ok c.open.ensures.opens) want inside
+    c.self.view_is c.requires.client c.self.invariant.0 c.self.invariant.1 c.requires.owns c.requires.grants c.as_slice-missing.ensures.wants c.reserve.ensures.items c.in_ok-install.ensures.ok c.open.ensures.opens) want inside
 
 pub grant-requires-clause-free : goal.grant-requires-clause-free
 grant-requires-clause-free c want inside =
@@ -69,7 +123,7 @@ grant-requires-clause-free c want inside =
     (missing_free (hub_of c.self.inside.trail.items c.self.inside.limit c.self.inside.clients c.self.inside.pages) c.args.cache.now c.args.wants.now c.as_slice-missing.result.now (hub_of c.open.new.trail.items c.self.inside.limit c.open.new.clients c.open.new.pages) c.open.new.cache
     (ready_for c.args.who c.self.inside.limit c.args.self.now c.args.cache.now c.install.new.cache c.open.new.cache c.args.wants.now c.args.missing.now c.as_slice-missing.result.now c.reserve.new.self.items c.self.inside.trail.items
     c.self.inside.clients c.self.inside.pages (hub_of c.open.new.trail.items c.self.inside.limit c.open.new.clients c.open.new.pages)
-    c.self.view_is c.requires.client c.self.invariant.0 c.requires.owns c.requires.grants c.as_slice-missing.ensures.wants c.reserve.ensures.items c.in_ok-install.ensures.ok c.open.ensures.opens) want inside)
+    c.self.view_is c.requires.client c.self.invariant.0 c.self.invariant.1 c.requires.owns c.requires.grants c.as_slice-missing.ensures.wants c.reserve.ensures.items c.in_ok-install.ensures.ok c.open.ensures.opens) want inside)
 
 pub bring_to_front-requires : goal.bring_to_front-requires
 bring_to_front-requires c want inside =
@@ -78,7 +132,7 @@ bring_to_front-requires c want inside =
     (wanted_held (hub_of c.self.inside.trail.items c.self.inside.limit c.self.inside.clients c.self.inside.pages) c.args.cache.now c.args.wants.now c.as_slice-missing.result.now (hub_of c.open.new.trail.items c.self.inside.limit c.open.new.clients c.open.new.pages) c.open.new.cache
     (ready_for c.args.who c.self.inside.limit c.args.self.now c.args.cache.now c.install.new.cache c.open.new.cache c.args.wants.now c.args.missing.now c.as_slice-missing.result.now c.reserve.new.self.items c.self.inside.trail.items
     c.self.inside.clients c.self.inside.pages (hub_of c.open.new.trail.items c.self.inside.limit c.open.new.clients c.open.new.pages)
-    c.self.view_is c.requires.client c.self.invariant.0 c.requires.owns c.requires.grants c.as_slice-missing.ensures.wants c.reserve.ensures.items c.in_ok-install.ensures.ok c.open.ensures.opens) want inside))
+    c.self.view_is c.requires.client c.self.invariant.0 c.self.invariant.1 c.requires.owns c.requires.grants c.as_slice-missing.ensures.wants c.reserve.ensures.items c.in_ok-install.ensures.ok c.open.ensures.opens) want inside))
 
 pub shrink-requires-clause-covers : goal.shrink-requires-clause-covers
 shrink-requires-clause-covers c =
@@ -87,7 +141,7 @@ shrink-requires-clause-covers c =
     (covers_given (hub_of c.self.inside.trail.items c.self.inside.limit c.self.inside.clients c.self.inside.pages) c.args.cache.now c.args.wants.now c.as_slice-missing.result.now (hub_of c.open.new.trail.items c.self.inside.limit c.open.new.clients c.open.new.pages) c.open.new.cache c.grant.new.pages
     (ready_for c.args.who c.self.inside.limit c.args.self.now c.args.cache.now c.install.new.cache c.open.new.cache c.args.wants.now c.args.missing.now c.as_slice-missing.result.now c.reserve.new.self.items c.self.inside.trail.items
     c.self.inside.clients c.self.inside.pages (hub_of c.open.new.trail.items c.self.inside.limit c.open.new.clients c.open.new.pages)
-    c.self.view_is c.requires.client c.self.invariant.0 c.requires.owns c.requires.grants c.as_slice-missing.ensures.wants c.reserve.ensures.items c.in_ok-install.ensures.ok c.open.ensures.opens)
+    c.self.view_is c.requires.client c.self.invariant.0 c.self.invariant.1 c.requires.owns c.requires.grants c.as_slice-missing.ensures.wants c.reserve.ensures.items c.in_ok-install.ensures.ok c.open.ensures.opens)
     (subst (λ (w : ℕ). GivesRights w c.as_slice-missing.result.now c.open.new.pages c.grant.new.pages) (sym c.requires.client)
     record { frames = c.grant.ensures.frames; count = c.grant.ensures.count; rights = c.grant.ensures.rights; holders = c.grant.ensures.holders c.open.ensures.opens.gives.holders })))
 
@@ -97,7 +151,7 @@ shrink-requires-clause-all c page =
     (rights_given (hub_of c.self.inside.trail.items c.self.inside.limit c.self.inside.clients c.self.inside.pages) c.args.cache.now c.args.wants.now c.as_slice-missing.result.now (hub_of c.open.new.trail.items c.self.inside.limit c.open.new.clients c.open.new.pages) c.open.new.cache c.grant.new.pages
     (ready_for c.args.who c.self.inside.limit c.args.self.now c.args.cache.now c.install.new.cache c.open.new.cache c.args.wants.now c.args.missing.now c.as_slice-missing.result.now c.reserve.new.self.items c.self.inside.trail.items
     c.self.inside.clients c.self.inside.pages (hub_of c.open.new.trail.items c.self.inside.limit c.open.new.clients c.open.new.pages)
-    c.self.view_is c.requires.client c.self.invariant.0 c.requires.owns c.requires.grants c.as_slice-missing.ensures.wants c.reserve.ensures.items c.in_ok-install.ensures.ok c.open.ensures.opens)
+    c.self.view_is c.requires.client c.self.invariant.0 c.self.invariant.1 c.requires.owns c.requires.grants c.as_slice-missing.ensures.wants c.reserve.ensures.items c.in_ok-install.ensures.ok c.open.ensures.opens)
     (subst (λ (w : ℕ). GivesRights w c.as_slice-missing.result.now c.open.new.pages c.grant.new.pages) (sym c.requires.client)
     record { frames = c.grant.ensures.frames; count = c.grant.ensures.count; rights = c.grant.ensures.rights; holders = c.grant.ensures.holders c.open.ensures.opens.gives.holders }) page
     ∙ sym (ap (right_of page) (fronted_held c.open.new.cache c.grant.new.cache c.allow.new.self c.bring_to_front.new.cache c.as_slice-missing.result.now c.args.wants.now (c.cap.result - length c.as_slice-missing.result.now) c.grant.ensures.cache c.allow.ensures.allowed c.bring_to_front.ensures)))
@@ -131,20 +185,81 @@ ready : (c : goal.After-shrink) → Ready (hub_of c.self.inside.trail.items c.se
 ready c =
     ready_for c.args.who c.self.inside.limit c.args.self.now c.args.cache.now c.install.new.cache c.open.new.cache c.args.wants.now c.args.missing.now c.as_slice-missing.result.now c.reserve.new.self.items c.self.inside.trail.items
     c.self.inside.clients c.self.inside.pages (hub_of c.open.new.trail.items c.self.inside.limit c.open.new.clients c.open.new.pages)
-    c.self.view_is c.requires.client c.self.invariant.0 c.requires.owns c.requires.grants c.as_slice-missing.ensures.wants c.reserve.ensures.items c.in_ok-install.ensures.ok c.open.ensures.opens
+    c.self.view_is c.requires.client c.self.invariant.0 c.self.invariant.1 c.requires.owns c.requires.grants c.as_slice-missing.ensures.wants c.reserve.ensures.items c.in_ok-install.ensures.ok c.open.ensures.opens
+
+-- the hub as it was, and after the turn
+abbrev before : goal.After-shrink → HubView
+before c = (hub_of c.self.inside.trail.items c.self.inside.limit c.self.inside.clients c.self.inside.pages)
+
+abbrev after : goal.After-shrink → HubView
+after c = hub_of c.grant.new.trail.items c.self.inside.limit c.set_asks.new.self c.shrink.new.pages
+
+turned : (c : goal.After-shrink) → Granting c.args.self.now c.args.cache.now c.args.wants.now c.args.missing.now (after c) c.shrink.new.cache
+turned c =
+    subst (λ (l : List Want). Granting c.args.self.now c.args.cache.now c.args.wants.now l (after c) c.shrink.new.cache) c.as_slice-missing.ensures.wants
+    (subst (λ (h : HubView). Granting h c.args.cache.now c.args.wants.now c.as_slice-missing.result.now (after c) c.shrink.new.cache) c.self.view_is
+    (granting_made (before c) c.args.cache.now c.args.wants.now c.as_slice-missing.result.now (hub_of c.open.new.trail.items c.self.inside.limit c.open.new.clients c.open.new.pages)
+    c.open.new.cache (after c) c.shrink.new.cache (ready c) (made c)))
+
+acquires : (c : goal.After-shrink) (calls : ℕ) → length c.args.missing.now + calls ≤ topped c.args.cache.now (free_in c.args.self.now)
+    → Acquires c.args.self.now c.args.cache.now c.args.wants.now calls Granted (after c) c.shrink.new.cache
+acquires c calls room =
+    let turn = turned c in
+    grant_turn c.args.self.now c.args.cache.now c.args.wants.now c.args.missing.now calls (after c) c.shrink.new.cache turn.sound turn.owns
+    (nobody_blocks c.args.self.now c.args.cache.now c.args.wants.now c.args.missing.now turn.can)
+    (room_for c.args.self.now c.args.cache.now c.args.wants.now c.args.missing.now calls turn.can room) turn.can turn.grants
+    (opened_is_sound c.args.self.now c.args.cache.now c.args.wants.now c.args.missing.now (after c) c.shrink.new.cache turn)
+    (granted_cache c.args.self.now c.args.cache.now c.args.wants.now c.args.missing.now (after c) c.shrink.new.cache turn)
+    (granted_held_is c.args.self.now c.args.cache.now c.args.wants.now c.args.missing.now (after c) c.shrink.new.cache turn.sound turn.owns c.requires.wants turn.can turn.grants)
+
+-- the acquire with room for no call
+abbrev acquiring : goal.After-shrink → Shared → machine.Own → Turned Reply
+acquiring c shared own = acquire shared own c.args.wants.now 0
+
+this : (c : goal.After-shrink) → IsTurn (acquiring c) Granted c.args.self.now c.args.cache.now (after c) c.shrink.new.cache
+this c = (acquires c 0 (let room = (turned c).can.room in omega (arith, room))).0
+
+keeps : (c : goal.After-shrink) (shared : Shared) → Shows shared c.args.self.now → IsGoodShared shared
+    → KeptByTurn shared (own_of c.args.cache.now) (acquiring c shared (own_of c.args.cache.now)).shared (acquiring c shared (own_of c.args.cache.now)).own
+keeps c = kept_by (acquiring c) c.args.self.now c.args.cache.now c.requires.owns (λ shared one live. MachineTurn.acquiring c.args.wants.now 0 live)
+
+sound_after : (c : goal.After-shrink) → IsSound (after c)
+sound_after c = record {
+  formed = granted_formed c.args.self.now c.args.cache.now c.args.wants.now c.args.missing.now (after c) c.shrink.new.cache (turned c);
+  stands = stands_behind (acquiring c) c.args.self.now c.args.cache.now (after c) (this c).shows (keeps c) (turned c).sound.sound.stands;
+}
 
 pub invariant_of-self-2 : goal.invariant_of-self-2
 invariant_of-self-2 c = (
-  made_sound (hub_of c.self.inside.trail.items c.self.inside.limit c.self.inside.clients c.self.inside.pages) c.args.cache.now c.args.wants.now c.as_slice-missing.result.now (hub_of c.open.new.trail.items c.self.inside.limit c.open.new.clients c.open.new.pages) c.open.new.cache (hub_of c.grant.new.trail.items c.self.inside.limit c.set_asks.new.self c.shrink.new.pages) c.shrink.new.cache (ready c) (made c),
-  c.grant.ensures.limit ∙ c.open.ensures.limit ∙ c.reserve.ensures.limit ∙ c.self.invariant.1,
+  sound_after c,
+  granted_plain c.args.self.now c.args.cache.now c.args.wants.now c.args.missing.now (after c) c.shrink.new.cache (turned c),
+  c.grant.ensures.limit ∙ c.open.ensures.limit ∙ c.reserve.ensures.limit ∙ c.self.invariant.2,
 )
 
-pub returns-clause-sound : goal.returns-clause-sound
-returns-clause-sound c = (invariant_of-self-2 c).0
+pub returns-clause-turn : goal.returns-clause-turn
+returns-clause-turn c calls room = acquires c calls room
 
-pub returns-clause-ok : goal.returns-clause-ok
-returns-clause-ok c =
-    subst (λ (h : HubView). Grants c.args.who c.args.wants.now c.args.missing.now h c.args.cache.now (hub_of c.grant.new.trail.items c.self.inside.limit c.set_asks.new.self c.shrink.new.pages) c.shrink.new.cache) c.self.view_is
-    (subst (λ (l : List Want). Grants c.args.who c.args.wants.now l (hub_of c.self.inside.trail.items c.self.inside.limit c.self.inside.clients c.self.inside.pages) c.args.cache.now (hub_of c.grant.new.trail.items c.self.inside.limit c.set_asks.new.self c.shrink.new.pages) c.shrink.new.cache) c.as_slice-missing.ensures.wants
-    (subst (λ (w : ℕ). Grants w c.args.wants.now c.as_slice-missing.result.now (hub_of c.self.inside.trail.items c.self.inside.limit c.self.inside.clients c.self.inside.pages) c.args.cache.now (hub_of c.grant.new.trail.items c.self.inside.limit c.set_asks.new.self c.shrink.new.pages) c.shrink.new.cache) c.requires.client
-    (granted_turn (hub_of c.self.inside.trail.items c.self.inside.limit c.self.inside.clients c.self.inside.pages) c.args.cache.now c.args.wants.now c.as_slice-missing.result.now (hub_of c.open.new.trail.items c.self.inside.limit c.open.new.clients c.open.new.pages) c.open.new.cache (hub_of c.grant.new.trail.items c.self.inside.limit c.set_asks.new.self c.shrink.new.pages) c.shrink.new.cache (ready c) (made c))))
+pub returns-clause-owned : goal.returns-clause-owned
+returns-clause-owned c =
+    owns_behind (acquiring c) c.args.self.now c.args.cache.now (after c) (this c).shows (keeps c) (turned c).sound.sound.stands c.shrink.new.cache (this c).owns
+    (granted_cache c.args.self.now c.args.cache.now c.args.wants.now c.args.missing.now (after c) c.shrink.new.cache (turned c))
+    (granted_few c.args.self.now c.args.cache.now c.args.wants.now c.args.missing.now (after c) c.shrink.new.cache (turned c))
+    (live_granted c.args.self.now c.args.cache.now c.args.wants.now c.args.missing.now (after c) c.shrink.new.cache (turned c))
+
+pub returns-clause-frames : goal.returns-clause-frames
+returns-clause-frames c base frames words =
+    granted_frames base c.args.self.now c.args.cache.now c.args.wants.now c.args.missing.now (after c) c.shrink.new.cache (turned c) frames words
+
+pub returns-clause-words : goal.returns-clause-words
+returns-clause-words c base frames words =
+    granted_words base c.args.self.now c.args.cache.now c.args.wants.now c.args.missing.now (after c) c.shrink.new.cache (turned c) frames words
+
+pub returns-clause-others : goal.returns-clause-others
+returns-clause-others c other differ =
+    keeps_others (acquiring c) c.args.self.now c.args.cache.now (after c) (this c).shows (keeps c) other (λ same. differ (same ∙ c.requires.client))
+
+pub returns-clause-still : goal.returns-clause-still
+returns-clause-still c = keeps_still (acquiring c) c.args.self.now c.args.cache.now (after c) (this c).shows (keeps c)
+
+pub returns-clause-sound : goal.returns-clause-sound
+returns-clause-sound c = sound_after c

@@ -1,65 +1,96 @@
-use Rattle.std.proofs.Common.{◌≡◌, ◌≤◌, ◌∙◌, List, ℕ, sym, ap, subst, min, arith}
-use Rattle.std.proofs.Math.Nat.{min-le_right}
-use Rattle.std.specs.Prelude.{Option, Ok, Err}
+use Rattle.std.proofs.Common.{◌≡◌, ◌≢◌, ◌∙◌, List, false, min, sym, ap, subst, arith}
+use Rattle.std.specs.Prelude.{Option, Ok, Err, is_some}
+use Rattle.casper_words.specs.Crew.{IsClient}
+use Rattle.casper_model.specs.Room.{most_cap}
 use Rattle.casper_model.specs.declared.reply.JoinRefusal.TheVariants as refusal
-use Rattle.casper_hub.specs.HubView.{HubView, ClientView, free_in}
+use Rattle.casper_hub.specs.HubView.{HubView, ClientView, client_in, cap_in, free_in}
 use Rattle.casper_hub.specs.HubFields.{hub_of}
-use Rattle.casper_hub.specs.Sound.{IsSound}
-use Rattle.casper_hub.specs.Apart.{Apart}
+use Rattle.casper_hub.specs.GoesOn.{KeepsClient, CommitsNothing}
+use Rattle.casper_hub.specs.Owned.{Owns, new_cache}
+use Rattle.casper_hub.specs.Sound.{IsSound, IsPlain}
 use Rattle.casper_hub.specs.Turns.{IsJoin}
 use Rattle.casper_hub.specs.Words.{FramesAreRight}
-use Rattle.casper_hub.proofs.JoinedTurns.{busy_join, full_join, made_join, sound_joined, joined_apart}
-use Rattle.casper_hub.proofs.Relying.{apart_itself}
+use Rattle.casper_hub.proofs.JoinedTurns.{with_client, busy_join, full_join, made_join, joined_sound, joined_plain, joined_others, joined_still, joined_owned}
+use Rattle.casper_hub.proofs.Relying.{kept_itself, nothing_itself}
+use Rattle.casper_hub.proofs.Whole.{Whole, whole, within_sound}
 use Rattle.casper_hub.proofs.hub.Hub.join.Goals as goal
+
+pub free_room-free-requires : goal.free_room-free-requires
+free_room-free-requires c = within_sound (hub_of c.self.inside.trail.items c.self.inside.limit c.self.inside.clients c.self.inside.pages) c.self.invariant.0
 
 pub returns-then-free-eq0-clause-turn : goal.returns-then-free-eq0-clause-turn
 returns-then-free-eq0-clause-turn c =
     subst (λ (h : HubView). IsJoin c.args.who (Err (refusal.TrailFull c.entries.result)) h h) c.self.view_is
-    (full_join c.args.who c.entries.result (hub_of c.self.inside.trail.items c.self.inside.limit c.self.inside.clients c.self.inside.pages)
-    c.self.invariant.0 (sym c.is_live.ensures ∙ c.if-is_live.false) (sym c.free_room-free.ensures ∙ c.if-free-eq0.true) c.entries.ensures.count)
+    (full_join c.args.who c.entries.result (hub_of c.self.inside.trail.items c.self.inside.limit c.self.inside.clients c.self.inside.pages) (whole (hub_of c.self.inside.trail.items c.self.inside.limit c.self.inside.clients c.self.inside.pages) c.self.invariant.0 c.self.invariant.1)
+    (sym c.is_live.ensures ∙ c.if-is_live.false) (sym c.free_room-free.ensures ∙ c.if-free-eq0.true) c.entries.ensures.count)
 
 pub returns-then-free-eq0-clause-others : goal.returns-then-free-eq0-clause-others
-returns-then-free-eq0-clause-others c other apart = apart_itself other c.args.self.now
+returns-then-free-eq0-clause-others c other apart = kept_itself other c.args.self.now
+
+pub returns-then-free-eq0-clause-still : goal.returns-then-free-eq0-clause-still
+returns-then-free-eq0-clause-still c = nothing_itself c.args.self.now
+
+pub returns-then-is_live-clause-still : goal.returns-then-is_live-clause-still
+returns-then-is_live-clause-still c = nothing_itself c.args.self.now
 
 pub returns-then-is_live-clause-turn : goal.returns-then-is_live-clause-turn
 returns-then-is_live-clause-turn c =
-    subst (λ (h : HubView). IsJoin c.args.who (Err refusal.Busy) h h) c.self.view_is
-    (busy_join c.args.who (hub_of c.self.inside.trail.items c.self.inside.limit c.self.inside.clients c.self.inside.pages) (sym c.is_live.ensures ∙ c.if-is_live.true))
+    subst (λ (h : HubView). IsJoin c.args.who (Err refusal.Busy) h h) c.self.view_is (busy_join c.args.who (hub_of c.self.inside.trail.items c.self.inside.limit c.self.inside.clients c.self.inside.pages) (sym c.is_live.ensures ∙ c.if-is_live.true))
 
 pub returns-then-is_live-clause-others : goal.returns-then-is_live-clause-others
-returns-then-is_live-clause-others c other apart = apart_itself other c.args.self.now
+returns-then-is_live-clause-others c other apart = kept_itself other c.args.self.now
 
--- what was promised to the client is what is free, at the most
-promised : (cap free room : ℕ) → cap ≡ min 4100 free → free ≡ room → cap ≤ room
-promised cap free room is same = let low : min 4100 free ≤ free = min-le_right 4100 free in omega (arith, is, same, low)
+-- the hub as the client joins
+abbrev before : goal.After-join → HubView
+before c = (hub_of c.self.inside.trail.items c.self.inside.limit c.self.inside.clients c.self.inside.pages)
+
+whole_before : (c : goal.After-join) → Whole (before c)
+whole_before c = whole (before c) c.self.invariant.0 c.self.invariant.1
+
+client : (c : goal.After-join) → IsClient c.args.who
+client c = (omega (arith, c.number-number.ensures.number, c.number-number.ensures.least), omega (arith, c.number-number.ensures.number, c.number-number.ensures.most))
+
+gone : (c : goal.After-join) → is_some (client_in (before c) c.args.who) ≡ false
+gone c = sym c.is_live.ensures ∙ c.if-is_live.false
+
+room : (c : goal.After-join) → free_in (before c) ≢ 0
+room c none = c.if-free-eq0.false (c.free_room-free.ensures ∙ none)
+
+capped : (c : goal.After-join) → c.min.result ≡ min most_cap (free_in (before c))
+capped c = c.min.ensures ∙ ap (min 4100) c.free_room-free.ensures
+
+-- what holds after the join of the client holds after the function
+behind : (c : goal.After-join) (P : HubView → HubView → Type 0) → P (before c) (with_client (before c) c.args.who c.min.result)
+    → P c.args.self.now (hub_of c.self.inside.trail.items c.self.inside.limit c.join.new.self c.self.inside.pages)
+behind c P is =
+    subst (λ (h : HubView). P h (hub_of c.self.inside.trail.items c.self.inside.limit c.join.new.self c.self.inside.pages)) c.self.view_is
+    (subst (λ (places : List (Option ClientView)). P (before c) (hub_of c.self.inside.trail.items c.self.inside.limit places c.self.inside.pages)) (sym c.join.ensures) is)
 
 pub invariant_of-self : goal.invariant_of-self
 invariant_of-self c = (
-  subst (λ (places : List (Option ClientView)). IsSound (hub_of c.self.inside.trail.items c.self.inside.limit places c.self.inside.pages)) (sym c.join.ensures)
-      (sound_joined (hub_of c.self.inside.trail.items c.self.inside.limit c.self.inside.clients c.self.inside.pages) c.args.who c.min.result c.self.invariant.0
-      (omega (arith, c.number-number.ensures.number, c.number-number.ensures.least), omega (arith, c.number-number.ensures.number, c.number-number.ensures.most))
-      (sym c.is_live.ensures ∙ c.if-is_live.false)
-      (promised c.min.result c.free_room-free.result (free_in (hub_of c.self.inside.trail.items c.self.inside.limit c.self.inside.clients c.self.inside.pages)) c.min.ensures c.free_room-free.ensures)),
-  c.self.invariant.1,
+  behind c (λ h after. IsSound after) (joined_sound (before c) c.args.who c.min.result (whole_before c) (client c) (gone c) (room c) (capped c)),
+  behind c (λ h after. IsPlain after) (joined_plain (before c) c.args.who c.min.result (whole_before c) (client c)),
+  c.self.invariant.2,
 )
 
 pub returns-clause-turn : goal.returns-clause-turn
 returns-clause-turn c =
-    subst (λ (h : HubView). IsJoin c.args.who (Ok tt) h (hub_of c.self.inside.trail.items c.self.inside.limit c.join.new.self c.self.inside.pages)) c.self.view_is
-    (subst (λ (places : List (Option ClientView)). IsJoin c.args.who (Ok tt) (hub_of c.self.inside.trail.items c.self.inside.limit c.self.inside.clients c.self.inside.pages)
-    (hub_of c.self.inside.trail.items c.self.inside.limit places c.self.inside.pages)) (sym c.join.ensures)
-    (made_join c.args.who c.min.result (hub_of c.self.inside.trail.items c.self.inside.limit c.self.inside.clients c.self.inside.pages) tt c.self.invariant.0
-    (omega (arith, c.number-number.ensures.number, c.number-number.ensures.least), omega (arith, c.number-number.ensures.number, c.number-number.ensures.most))
-    (sym c.is_live.ensures ∙ c.if-is_live.false)
-    (λ none. c.if-free-eq0.false (c.free_room-free.ensures ∙ none))
-    (c.min.ensures ∙ ap (min 4100) c.free_room-free.ensures)))
+    behind c (λ h after. IsJoin c.args.who (Ok tt) h after)
+    (made_join c.args.who c.min.result (before c) tt (whole_before c) (client c) (gone c) (room c) (capped c))
 
 pub returns-clause-others : goal.returns-clause-others
 returns-clause-others c other apart =
-    subst (λ (h : HubView). Apart other h (hub_of c.self.inside.trail.items c.self.inside.limit c.join.new.self c.self.inside.pages)) c.self.view_is
-    (subst (λ (places : List (Option ClientView)). Apart other (hub_of c.self.inside.trail.items c.self.inside.limit c.self.inside.clients c.self.inside.pages)
-    (hub_of c.self.inside.trail.items c.self.inside.limit places c.self.inside.pages)) (sym c.join.ensures)
-    (joined_apart (hub_of c.self.inside.trail.items c.self.inside.limit c.self.inside.clients c.self.inside.pages) c.args.who other c.min.result c.self.invariant.0 apart))
+    behind c (λ h after. KeepsClient other h after)
+    (joined_others (before c) c.args.who c.min.result (whole_before c) (client c) (gone c) (room c) (capped c) other apart)
+
+pub returns-clause-still : goal.returns-clause-still
+returns-clause-still c =
+    behind c (λ h after. CommitsNothing h after) (joined_still (before c) c.args.who c.min.result (whole_before c) (client c) (gone c) (room c) (capped c))
+
+pub returns-clause-owned : goal.returns-clause-owned
+returns-clause-owned c capacity least most =
+    behind c (λ h after. Owns after (new_cache c.args.who capacity (cap_in after c.args.who)))
+    (joined_owned (before c) c.args.who c.min.result (whole_before c) (client c) (gone c) (room c) (capped c) capacity least most)
 
 pub returns-clause-frames : goal.returns-clause-frames
 returns-clause-frames c base frames = subst (λ (h : HubView). FramesAreRight base h) (sym c.self.view_is) frames

@@ -1,18 +1,21 @@
 use Rattle.std.proofs.Common.{ap, arith}
 use Rattle.std.specs.Prelude.{is_some}
-use Rattle.casper_hub.proofs.NewHub.{sound_new, shows_new, nobody_live}
+use Rattle.casper_hub.proofs.NewHub.{sound_new, plain_new, shows_new, nobody_live}
 use Rattle.casper_hub.proofs.hub.Hub.new.Goals as goal
 
 pub invariant_of-result : goal.invariant_of-result
 invariant_of-result c = (
   sound_new c.args.pages c.args.limit c.new-3.result.items c.in_ok-clients.clients c.in_ok-pages.pages c.new-3.ensures.empty c.in_ok-clients.ensures
       c.in_ok-pages.ensures.rights c.in_ok-pages.ensures.none c.in_ok-pages.ensures.holders c.in_ok-pages.ensures.frames (omega arith) (omega arith),
+  plain_new c.args.pages c.args.limit c.new-3.result.items c.in_ok-clients.clients c.in_ok-pages.pages c.new-3.ensures.empty c.in_ok-clients.ensures
+      c.in_ok-pages.ensures.rights c.in_ok-pages.ensures.none,
   c.new-3.ensures.limit,
 )
 
 pub returns-clause-shows : goal.returns-clause-shows
 returns-clause-shows c =
-    shows_new c.args.pages c.args.limit c.new-3.result.items c.in_ok-clients.clients c.in_ok-pages.pages c.new-3.ensures.empty c.in_ok-clients.ensures c.in_ok-pages.ensures.rights
+    shows_new c.args.pages c.args.limit c.new-3.result.items c.in_ok-clients.clients c.in_ok-pages.pages c.new-3.ensures.empty c.in_ok-clients.ensures
+    c.in_ok-pages.ensures.rights c.in_ok-pages.ensures.none
 
 pub returns-clause-absent : goal.returns-clause-absent
 returns-clause-absent c who = ap is_some (nobody_live c.in_ok-clients.clients c.in_ok-clients.ensures who)

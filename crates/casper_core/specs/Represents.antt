@@ -27,7 +27,7 @@ pub record HasPartsOf {V : Type 0} (state : State) (core : CoreView V) : Type 0 
   pub stored : AreStored state.base core.hub core.told.image
 
 -- a core stands for a state of the machine, whose history is legal with exact marks, and which has room
-pub record Stands {V : Type 0} (state : State) (core : CoreView V) : Type 0 where
+pub record Represents {V : Type 0} (state : State) (core : CoreView V) : Type 0 where
   pub parts : HasPartsOf state core
   pub history : HasHistory state
   pub room : HasRoom state
