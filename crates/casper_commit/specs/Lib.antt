@@ -4,3 +4,5 @@ pub mod Added
 pub mod StateLaws
 pub mod OpenedLaws
 pub mod Pieces
+pub mod StandingCalls
+pub mod GateCalls

@@ -11,5 +11,5 @@ AreApart count place pieces =
     (one other : ℕ) → one < count pieces → other < count pieces → place pieces one ≡ place pieces other → one ≡ other
 
 -- the first so many pieces stand in their blocks
-abbrev pub HoldPieces : {P : Type 0} → (P → ℕ → ℕ) → (P → ℕ → List ℕ) → P → ℕ → List (List ℕ) → Type 0
-HoldPieces place bytes pieces first blocks = (piece : ℕ) → piece < first → block_at blocks (place pieces piece) ≡ bytes pieces piece
+abbrev pub HoldPieces : {P : Type 0} → (P → ℕ → ℕ) → (P → ℕ → List ℕ → Type 0) → P → ℕ → List (List ℕ) → Type 0
+HoldPieces place is_piece pieces first blocks = (piece : ℕ) → piece < first → is_piece pieces piece (block_at blocks (place pieces piece))

@@ -1,5 +1,5 @@
 ghost use Rattle.std.specs.Prelude.{◌≡◌, ◌≤◌, IsTrue, IfOk, OnErr};
-ghost use Rattle.casper_words.specs.Count.{Rose};
+ghost use Rattle.casper_words.specs.Count.{FaultCountRose};
 ghost use Rattle.casper_root.specs.Choice.{of_slot};
 ghost use Rattle.casper_root.specs.Reading.{IsOnlyRead};
 ghost use Rattle.casper_root.specs.Slots.{other_slot};
@@ -14,11 +14,13 @@ use casper_words::Block;
 /// closed. It reads the gates and then the bodies, and changes nothing of the disk; the block is used to read.
 pub fn find_root<D: Disk>(disk: &mut D, block: &mut Block) -> Result<Option<Standing>, DiskFault>
     requires { 5 ≤ D.size disk.old }
-    ensures found { IsTrue D.tells → IfOk result (λ found. found ≡ standing_in (D.content disk.old)) }
+    ensures found { IsTrue D.tells →
+        IfOk result (λ found. found ≡ standing_in (D.content disk.old)) }
     ensures size { D.size disk.new ≡ D.size disk.old }
     ensures leads { D.leads_to disk.old disk.new }
-    ensures read { IsTrue D.tells → IsOnlyRead D.content D.loose D.moment D.images_since disk.old disk.new }
-    ensures counted { OnErr result (Rose (D.faults disk.old) (D.faults disk.new)) }
+    ensures read { IsTrue D.tells → IsOnlyRead D.content D.loose D.moment D.images_since
+        disk.old disk.new }
+    ensures counted { OnErr result (FaultCountRose (D.faults disk.old) (D.faults disk.new)) }
     ensures never_falls { D.faults disk.old ≤ D.faults disk.new }
 {
     let pair = read_pair(disk, block)?;

@@ -1,10 +1,9 @@
 ghost use Rattle.std.specs.Prelude.{◌≡◌, ◌<◌, ◌≤◌, ℕ, Bool, true, false, List, IsTrue, OnOk, OnErr};
-ghost use Rattle.casper_words.specs.Count.{Rose};
+ghost use Rattle.casper_words.specs.Count.{FaultCountRose};
 ghost use Rattle.casper_disk.specs.Disk.{AgreesBut, none_loose};
 ghost use Rattle.casper_root.specs.Slots.{other_slot};
-ghost use Rattle.casper_commit.specs.Root.{has_open_gate};
-ghost use Rattle.casper_commit.specs.States.{OpensTo, RootStands, StandsBeside, IsReady, IsAtGate, besides, none_free, root_at};
-ghost use Rattle.casper_commit.specs.Added.{AddsImages};
+ghost use Rattle.casper_commit.specs.States.{besides, none_free};
+ghost use Rattle.casper_commit.specs.StandingCalls.{alone_at, StandsStill, OpensMeanwhile, ClosesAfterOk, ReadyDecidesAfterOk};
 
 use crate::Standing;
 use casper_disk::{Disk, DiskFault};
@@ -18,19 +17,17 @@ fn close_unless_known<D: Disk>(
     standing: Standing,
 ) -> Result<(), DiskFault>
     requires { 5 ≤ D.size disk.old }
-    ensures closed { IsTrue D.tells → (body : List ℕ) (free : ℕ → Bool) (base : List (List ℕ))
-        → RootStands standing body free base (D.content disk.old) (D.loose disk.old)
-        → OnOk result (has_open_gate (D.content disk.new) (other_slot standing.slot) ≡ false) }
-    ensures stands { IsTrue D.tells → (body : List ℕ) (free : ℕ → Bool) (base : List (List ℕ))
-        → RootStands standing body free base (D.content disk.old) (D.loose disk.old)
-        → RootStands standing body free base (D.content disk.new) (D.loose disk.new) }
-    ensures frames { IsTrue D.tells → AgreesBut (besides none_free) (D.content disk.old) (D.content disk.new) }
-    ensures images { IsTrue D.tells → (body : List ℕ) (free : ℕ → Bool) (base : List (List ℕ))
-        → RootStands standing body free base (D.content disk.old) (D.loose disk.old)
-        → AddsImages D.moment D.images_since disk.old disk.new (OpensTo (root_at standing body) free base) }
+    ensures closed { IsTrue D.tells →
+        ClosesAfterOk result D.content D.loose standing disk.old disk.new }
+    ensures stands { IsTrue D.tells →
+        StandsStill D.content D.loose standing standing disk.old disk.new }
+    ensures frames { IsTrue D.tells →
+        AgreesBut (besides none_free) (D.content disk.old) (D.content disk.new) }
+    ensures images { IsTrue D.tells →
+        OpensMeanwhile D.content D.loose D.moment D.images_since standing disk.old disk.new }
     ensures size { D.size disk.new ≡ D.size disk.old }
     ensures leads { D.leads_to disk.old disk.new }
-    ensures counted { OnErr result (Rose (D.faults disk.old) (D.faults disk.new)) }
+    ensures counted { OnErr result (FaultCountRose (D.faults disk.old) (D.faults disk.new)) }
     ensures never_falls { D.faults disk.old ≤ D.faults disk.new }
 {
     if standing.spare_closed {
@@ -49,16 +46,15 @@ pub fn make_ready<D: Disk>(
     ensures known { OnOk result (standing.new ≡ record standing.old { spare_closed = true }) }
     ensures unknown { OnErr result (standing.new ≡ standing.old) }
     ensures settled { IsTrue D.tells → OnOk result (D.loose disk.new ≡ none_loose) }
-    ensures stands { IsTrue D.tells → (body : List ℕ) (free : ℕ → Bool) (base : List (List ℕ))
-        → RootStands standing.old body free base (D.content disk.old) (D.loose disk.old)
-        → RootStands standing.new body free base (D.content disk.new) (D.loose disk.new) }
-    ensures frames { IsTrue D.tells → AgreesBut (besides none_free) (D.content disk.old) (D.content disk.new) }
-    ensures images { IsTrue D.tells → (body : List ℕ) (free : ℕ → Bool) (base : List (List ℕ))
-        → RootStands standing.old body free base (D.content disk.old) (D.loose disk.old)
-        → AddsImages D.moment D.images_since disk.old disk.new (OpensTo (root_at standing.old body) free base) }
+    ensures stands { IsTrue D.tells →
+        StandsStill D.content D.loose standing.old standing.new disk.old disk.new }
+    ensures frames { IsTrue D.tells →
+        AgreesBut (besides none_free) (D.content disk.old) (D.content disk.new) }
+    ensures images { IsTrue D.tells → OpensMeanwhile D.content D.loose D.moment D.images_since
+        standing.old disk.old disk.new }
     ensures size { D.size disk.new ≡ D.size disk.old }
     ensures leads { D.leads_to disk.old disk.new }
-    ensures counted { OnErr result (Rose (D.faults disk.old) (D.faults disk.new)) }
+    ensures counted { OnErr result (FaultCountRose (D.faults disk.old) (D.faults disk.new)) }
     ensures never_falls { D.faults disk.old ≤ D.faults disk.new }
 {
     close_unless_known(disk, block, *standing)?;
@@ -71,18 +67,15 @@ pub fn make_ready<D: Disk>(
 pub fn put_body<D: Disk>(disk: &mut D, current: Slot, body: &Block) -> Result<(), DiskFault>
     requires { 5 ≤ D.size disk.old }
     ensures settled { IsTrue D.tells → OnOk result (D.loose disk.new ≡ none_loose) }
-    ensures at_gate { IsTrue D.tells → (was : List ℕ) (free : ℕ → Bool) (base framed : List (List ℕ))
-        → IsReady (record { slot = current; body = was }) body.now free base framed (D.content disk.old) (D.loose disk.old)
-        → OnOk result (IsAtGate (record { slot = current; body = was }) body.now free base framed (D.content disk.new) (D.loose disk.new)) }
-    ensures stands { IsTrue D.tells → (was : List ℕ) (free : ℕ → Bool) (base : List (List ℕ))
-        → StandsBeside true (record { slot = current; body = was }) free base (D.content disk.old) (D.loose disk.old)
-        → StandsBeside true (record { slot = current; body = was }) free base (D.content disk.new) (D.loose disk.new) }
-    ensures images { IsTrue D.tells → (was : List ℕ) (free : ℕ → Bool) (base : List (List ℕ))
-        → StandsBeside true (record { slot = current; body = was }) free base (D.content disk.old) (D.loose disk.old)
-        → AddsImages D.moment D.images_since disk.old disk.new (OpensTo (record { slot = current; body = was }) free base) }
+    ensures at_gate { IsTrue D.tells →
+        ReadyDecidesAfterOk result D.content D.loose current body.now disk.old disk.new }
+    ensures stands { IsTrue D.tells → StandsStill D.content D.loose
+        (alone_at current) (alone_at current) disk.old disk.new }
+    ensures images { IsTrue D.tells → OpensMeanwhile D.content D.loose D.moment D.images_since
+        (alone_at current) disk.old disk.new }
     ensures size { D.size disk.new ≡ D.size disk.old }
     ensures leads { D.leads_to disk.old disk.new }
-    ensures counted { OnErr result (Rose (D.faults disk.old) (D.faults disk.new)) }
+    ensures counted { OnErr result (FaultCountRose (D.faults disk.old) (D.faults disk.new)) }
     ensures never_falls { D.faults disk.old ≤ D.faults disk.new }
 {
     write_and_sync(disk, current.other_slot().body_place(), body)

@@ -1,20 +1,19 @@
-use Rattle.std.proofs.Common.{◌≡◌, ◌≢◌, ℕ, ◌+◌, ◌*◌, ◌/◌, ◌%◌, ◌^◌, ◌-◌, ◌<◌, ◌≤◌, Bool, true, false, List, length, map, replicate, get_or, set, refl, sym, ◌∙◌, ap, subst, ⊎_elim, arith, inl, inr}
+use Rattle.std.proofs.Common.{◌≡◌, ◌≢◌, ℕ, ◌+◌, ◌*◌, ◌/◌, ◌%◌, ◌^◌, ◌-◌, ◌<◌, ◌≤◌, Bool, true, false, List, length, replicate, get_or, set, refl, sym, ◌∙◌, ap, subst, ⊎_elim, arith}
 use Rattle.std.specs.Prelude.{◌==◌, bit_or, bit_and}
 use Rattle.std.specs.Int.{w64, bit_at, bit_not, trailing_ones}
-use Rattle.std.specs.List.{range_with_len}
 use Rattle.std.proofs.lemmas.List.{ext_get_or, length-set, length-replicate, get_or-set_same, get_or-set_other, get_or-replicate, get_or_past}
 use Rattle.std.proofs.lemmas.List.FromFn.{length-map-range_with_len, get_or-map-range_with_len}
 use Rattle.std.proofs.lemmas.Bool.{cases_lt, cases_eq}
-use Rattle.std.proofs.Math.Pow.{pow-lt, pow-sub-lt}
+use Rattle.std.proofs.Math.Pow.{pow-lt}
 use Rattle.std.proofs.Math.Nat.{mod-eq_of_lt, one-mul}
 use Rattle.std.proofs.lemmas.Nat.{or_lt}
 use Rattle.std.proofs.lemmas.Nat.Bits.{bit_at-zero, bit_at-lt, bit_at_or, bit_at_ones, bit_at_ones_above, bit_at-trailing_ones, bit_at_set_same, bit_at_set_other, bit_at_clear_same, bit_at_clear_other}
-use Rattle.casper_map.specs.Bits.{has_bit, members_of, is_member, IsLowestClear, IsNextFree}
+use Rattle.casper_map.specs.Bits.{has_bit, flags_of_bits, is_member, IsLowestClear, IsNextFree}
 
-pub members_long : (words : List ℕ) (size : ℕ) → length (members_of words size) ≡ size
+pub members_long : (words : List ℕ) (size : ℕ) → length (flags_of_bits words size) ≡ size
 members_long words size = length-map-range_with_len (has_bit words) 0 size
 
-pub member_at : (words : List ℕ) (size frame : ℕ) → frame < size → is_member (members_of words size) frame ≡ has_bit words frame
+pub member_at : (words : List ℕ) (size frame : ℕ) → frame < size → is_member (flags_of_bits words size) frame ≡ has_bit words frame
 member_at words size frame within = get_or-map-range_with_len (has_bit words) 0 size frame frame false within (omega arith)
 
 -- so many zeros
@@ -27,28 +26,28 @@ zero_word count at =
     (λ past. get_or_past (zeros count) at 0 (omega (arith, length-replicate {A = ℕ} count 0, past))) (cases_lt at count)
 
 -- without a bit a set is empty
-pub none_members : (count size : ℕ) → members_of (zeros count) size ≡ replicate size false
+pub none_members : (count size : ℕ) → flags_of_bits (zeros count) size ≡ replicate size false
 none_members count size =
     let words = zeros count in
-    ext_get_or false (members_of words size) (replicate size false) (members_long words size ∙ sym (length-replicate size false))
+    ext_get_or false (flags_of_bits words size) (replicate size false) (members_long words size ∙ sym (length-replicate size false))
     (λ frame within.
     let below : frame < size = omega (arith, members_long words size, within) in
     member_at words size frame below ∙ ap (λ (word : ℕ). bit_at word (frame % 64) == 1) (zero_word count (frame / 64))
     ∙ ap (λ (bit : ℕ). bit == 1) (bit_at-zero (frame % 64)) ∙ sym (get_or-replicate size frame false false below))
 
 -- the set is empty whose words were made so
-pub made_empty : (words : List ℕ) (count size : ℕ) → words ≡ zeros count → members_of words size ≡ replicate size false
-made_empty words count size is = ap (λ (list : List ℕ). members_of list size) is ∙ none_members count size
+pub made_empty : (words : List ℕ) (count size : ℕ) → words ≡ zeros count → flags_of_bits words size ≡ replicate size false
+made_empty words count size is = ap (λ (list : List ℕ). flags_of_bits list size) is ∙ none_members count size
 
 -- with one word changed, of which the bit of a frame alone changed, the set differs in that frame alone
 pub members_set : (words : List ℕ) (size frame word : ℕ) (member : Bool) → frame < size → frame / 64 < length words
     → (bit_at word (frame % 64) == 1) ≡ member
     → ((place : ℕ) → place < 64 → place ≢ frame % 64 → bit_at word place ≡ bit_at (get_or words (frame / 64) 0) place)
-    → members_of (set words (frame / 64) word) size ≡ set (members_of words size) frame member
+    → flags_of_bits (set words (frame / 64) word) size ≡ set (flags_of_bits words size) frame member
 members_set words size frame word member below within is others =
     let new = set words (frame / 64) word in
-    let old = members_of words size in
-    ext_get_or false (members_of new size) (set old frame member) (members_long new size ∙ sym (members_long words size) ∙ sym (length-set old frame member))
+    let old = flags_of_bits words size in
+    ext_get_or false (flags_of_bits new size) (set old frame member) (members_long new size ∙ sym (members_long words size) ∙ sym (length-set old frame member))
     (λ at within_at.
     let at_below : at < size = omega (arith, members_long new size, within_at) in
     let old_long : frame < length old = omega (arith, members_long words size) in
@@ -71,7 +70,7 @@ members_set words size frame word member below within is others =
     (cases_eq at frame))
 
 pub members_with : (words : List ℕ) (size frame : ℕ) → frame < size → frame / 64 < length words
-    → members_of (set words (frame / 64) (bit_or (get_or words (frame / 64) 0) (1 * 2 ^ (frame % 64) % 2 ^ 64))) size ≡ set (members_of words size) frame true
+    → flags_of_bits (set words (frame / 64) (bit_or (get_or words (frame / 64) 0) (1 * 2 ^ (frame % 64) % 2 ^ 64))) size ≡ set (flags_of_bits words size) frame true
 members_with words size frame below within =
     let old = get_or words (frame / 64) 0 in
     let lower : frame % 64 < 64 = omega arith in
@@ -80,7 +79,7 @@ members_with words size frame below within =
     (λ place place_lower other. bit_at_set_other w64 old (frame % 64) lower place other)
 
 pub members_without : (words : List ℕ) (size frame : ℕ) → frame < size → frame / 64 < length words
-    → members_of (set words (frame / 64) (bit_and (get_or words (frame / 64) 0) (bit_not w64 (1 * 2 ^ (frame % 64) % 2 ^ 64)))) size ≡ set (members_of words size) frame false
+    → flags_of_bits (set words (frame / 64) (bit_and (get_or words (frame / 64) 0) (bit_not w64 (1 * 2 ^ (frame % 64) % 2 ^ 64)))) size ≡ set (flags_of_bits words size) frame false
 members_without words size frame below within =
     let old = get_or words (frame / 64) 0 in
     let lower : frame % 64 < 64 = omega arith in
@@ -104,7 +103,7 @@ shifted_one word from within =
 pub filled_fits : (word from : ℕ) → word < 2 ^ 64 → from < 64 → bit_or word (1 * 2 ^ from % 2 ^ 64 - 1) < 2 ^ 64
 filled_fits word from fits within = or_lt 64 word (1 * 2 ^ from % 2 ^ 64 - 1) fits (omega arith)
 
--- the lowest clear bit behind filled ones
+-- the lowest clear bit after filled ones
 pub clear_found : (word from filled : ℕ) → filled ≡ bit_or word (2 ^ from - 1) → filled < 2 ^ 64 → filled ≢ 2 ^ 64 - 1
     → IsLowestClear word from (trailing_ones w64 filled)
 clear_found word from filled is below some =
@@ -170,7 +169,7 @@ word_clear words at place found =
     )
 
 -- what was found in the bits, said of the members
-pub next_found : (words : List ℕ) (size from frame : ℕ) (members : List Bool) → members_of words size ≡ members → from ≤ frame → frame < size
+pub next_found : (words : List ℕ) (size from frame : ℕ) (members : List Bool) → flags_of_bits words size ≡ members → from ≤ frame → frame < size
     → has_bit words frame ≡ false → ((other : ℕ) → from ≤ other → other < frame → has_bit words other ≡ true) → IsNextFree members from frame
 next_found words size from frame members view above within free lowest =
     subst (λ (set : List Bool). IsNextFree set from frame) view (record {
@@ -180,7 +179,7 @@ next_found words size from frame members view above within free lowest =
       lowest = λ other high low. member_at words size other (omega arith) ∙ lowest other high low;
     })
 
-pub none_found : (words : List ℕ) (size from : ℕ) (members : List Bool) → members_of words size ≡ members
+pub none_found : (words : List ℕ) (size from : ℕ) (members : List Bool) → flags_of_bits words size ≡ members
     → ((other : ℕ) → from ≤ other → other < size → has_bit words other ≡ true)
     → (other : ℕ) → from ≤ other → other < length members → is_member members other ≡ true
 none_found words size from members view full =

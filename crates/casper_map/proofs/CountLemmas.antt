@@ -1,16 +1,15 @@
-use Rattle.std.proofs.Common.{◌≡◌, ◌≢◌, ℕ, zero, suc, ◌+◌, ◌*◌, ◌<◌, ◌≤◌, Bool, true, false, List, [], ◌∷◌, length, refl, sym, ◌∙◌, ap, subst, ⊎_elim, arith}
-use Rattle.std.specs.Prelude.{◌||◌, ◌==◌, not, Option, None, Some, filter, is_some, replicate, cond}
+use Rattle.std.proofs.Common.{◌≡◌, ◌≢◌, ℕ, zero, suc, ◌+◌, ◌*◌, ◌<◌, ◌≤◌, Bool, true, false, List, [], ◌∷◌, length, refl, sym, ◌∙◌, ap, ⊎_elim, arith}
+use Rattle.std.specs.Prelude.{◌||◌, ◌==◌, not, Option, None, Some, filter, replicate, cond}
 use Rattle.std.specs.List.{range_with_len}
-use Rattle.std.proofs.lemmas.Bool.{cases_eq, cases_lt, cases_Bool, eq-eqb, ne_eqb, or_left, false_from_ne_true, not_from_true, cond-true, cond-false}
+use Rattle.std.proofs.lemmas.Bool.{cases_eq, cases_lt, cases_Bool, eq-eqb, ne_eqb, or_left, false_from_ne_true, cond-true, cond-false}
 use Rattle.std.proofs.lemmas.List.{get_or_past, get_or-replicate, length-replicate}
 use Rattle.std.proofs.lemmas.List.Sums.{sum_by-cons}
-use Rattle.std.proofs.lemmas.List.FromFn.{length-range_with_len}
 use Rattle.std.proofs.lemmas.Option.{none-some}
 use Rattle.casper_map.specs.Bits.{is_member}
 use Rattle.casper_map.specs.Faulty.{frame_at}
 use Rattle.casper_map.specs.Levels.{names}
-use Rattle.casper_map.specs.Mapped.{Mapped, used_in, free_frames, AreApart, AreBelow, IsShadow}
-use Rattle.casper_map.proofs.NameLemmas.{place_named, named_at, place_within, one_of}
+use Rattle.casper_map.specs.Mapped.{used_in, AreApart, AreBelow, IsShadow}
+use Rattle.casper_map.proofs.NameLemmas.{place_named, one_of}
 
 -- the numbers that are neither this one nor pass the test
 abbrev but_for : (ℕ → Bool) → ℕ → ℕ → Bool
@@ -19,7 +18,7 @@ but_for test number frame = not (number == frame || test frame)
 abbrev failing : (ℕ → Bool) → ℕ → Bool
 failing test frame = not (test frame)
 
--- behind a number it makes no difference
+-- after a number it makes no difference
 but_behind : (test : ℕ → Bool) (number start count : ℕ) → number < start
     → filter (but_for test number) (range_with_len start count) ≡ filter (failing test) (range_with_len start count)
 but_behind test number start zero behind = refl

@@ -1,14 +1,14 @@
-use Rattle.std.proofs.Common.{◌≡◌, ◌≢◌, ℕ, zero, suc, ◌+◌, ◌-◌, ◌*◌, ◌<◌, ◌≤◌, Bool, true, false, List, [], ◌∷◌, ◌++◌, length, take, map, get_or, replicate, refl, sym, ◌∙◌, ap, subst, ⊎_elim, inl, inr, arith}
-use Rattle.std.specs.Prelude.{◌⊎◌, Option, Some, None, min, Result, Ok, Err, MatchResult, slice_index}
+use Rattle.std.proofs.Common.{◌≡◌, ℕ, zero, suc, ◌+◌, ◌-◌, ◌*◌, ◌<◌, ◌≤◌, List, [], ◌∷◌, ◌++◌, length, take, get_or, refl, sym, ◌∙◌, ap, subst, ⊎_elim, inr, arith}
+use Rattle.std.specs.Prelude.{◌⊎◌, Option, Some, None, min, Result, Ok, Err, MatchResult}
 use Rattle.std.proofs.lemmas.Bool.{cases_lt}
-use Rattle.std.proofs.lemmas.List.{length-map, length-replicate, get_or-map, get_or-replicate, get_or_append_left, get_or-append-add, get_or-take, get_or_past, length-append, length-take}
+use Rattle.std.proofs.lemmas.List.{length-map, length-replicate, get_or-map, get_or-replicate, get_or_append_left, get_or-append-add, get_or-take, length-append, length-take}
 use Rattle.casper_root.specs.declared.fault.OpenFault.{OpenFault}
 use Rattle.casper_root.specs.declared.fault.OpenFault.TheVariants as fault
-use Rattle.casper_map.specs.Faulty.{frame_at, is_faulty, is_faulty_beside}
+use Rattle.casper_map.specs.Faulty.{frame_at, is_faulty_beside}
 use Rattle.casper_map.specs.Levels.{level, entries_in, block_in, one_reader}
 use Rattle.casper_map.specs.Mapped.{Mapped}
 use Rattle.casper_map.specs.Numbers.{frame_in, number_of, numbers_of_block}
-use Rattle.casper_map.specs.Reading.{IsRead, HasNoneFrom, IsFirstBad, StandAt, ReadsBlock, end_of_block}
+use Rattle.casper_map.specs.Reading.{IsRead, HasNoneFrom, IsFirstBad, StandAt, end_of_block}
 use Rattle.casper_map.proofs.ByteLemmas.{numbers_long}
 
 pub entries_long : (blocks : List (List ℕ)) (place : Option ℕ) → length (entries_in one_reader blocks place) ≡ 1024
@@ -29,7 +29,7 @@ level_at blocks (place ∷ maps) (suc number) i within low =
     ap (frame_at (entries ++ level one_reader blocks maps)) e ∙ get_or-append-add entries (level one_reader blocks maps) (1024 * number + i) None
     ∙ level_at blocks maps number i (omega arith) low
 
--- and so does what stands behind the map blocks
+-- and so does what stands after the map blocks
 pub entry_at : (blocks : List (List ℕ)) (maps : List (Option ℕ)) (first pages number i : ℕ) → length maps ≡ first → number < first → i < 1024 → 1024 * number + i < pages
     → frame_at (maps ++ take pages (level one_reader blocks maps)) (first + 1024 * number + i) ≡ frame_at (entries_in one_reader blocks (frame_at maps number)) i
 entry_at blocks maps first pages number i long within low inside =

@@ -1,14 +1,14 @@
-use Rattle.std.proofs.Common.{◌≡◌, ◌≢◌, ℕ, zero, suc, ◌+◌, ◌-◌, ◌*◌, ◌/◌, ◌<◌, ◌≤◌, Bool, true, false, List, [], ◌∷◌, ◌++◌, length, take, map, get_or, refl, sym, ◌∙◌, ap, subst, ⊎_elim, arith}
-use Rattle.std.specs.Prelude.{All, Contains, ◌==◌, nat_lt, cond, fold}
+use Rattle.std.proofs.Common.{◌≡◌, ◌≢◌, ℕ, zero, suc, ◌+◌, ◌-◌, ◌/◌, ◌<◌, ◌≤◌, List, [], ◌∷◌, ◌++◌, length, take, map, get_or, refl, sym, ◌∙◌, ap, subst, ⊎_elim, arith}
+use Rattle.std.specs.Prelude.{All, Contains, ◌==◌, nat_lt, cond}
 use Rattle.std.specs.List.Sorted.{IsStrictlyIncreasing}
-use Rattle.std.proofs.lemmas.Bool.{cases_eq, cases_lt, eq-eqb, ne_eqb, le-ltb, cond-true, cond-false}
-use Rattle.std.proofs.lemmas.List.{take_more, map_more, length-append, get_or-take}
-use Rattle.std.proofs.lemmas.List.Elements.{All-head, All-tail, All-push, All-weaker, Contains-push, Contains-append_cases}
+use Rattle.std.proofs.lemmas.Bool.{cases_eq, eq-eqb, ne_eqb, le-ltb, cond-true, cond-false}
+use Rattle.std.proofs.lemmas.List.{map_more}
+use Rattle.std.proofs.lemmas.List.Elements.{All-head, All-tail, All-push, All-weaker, Contains-push}
 use Rattle.std.proofs.lemmas.List.Sums.{fold-append}
-use Rattle.casper_space.specs.Rising.{with_number, with_numbers, rising}
+use Rattle.casper_space.specs.Rising.{with_number, rising}
 use Rattle.casper_space.specs.Changes.{blocks_of}
 
--- a number above all of a list comes behind it
+-- a number above all of a list comes after it
 pub with_new : (list : List ℕ) (above number : ℕ) → All (λ item. item < above) list → above ≤ number → with_number list number ≡ list ++ number ∷ []
 with_new [] above number below high = refl
 with_new (first ∷ list) above number below high =

@@ -1,21 +1,16 @@
-use Rattle.std.proofs.Common.{◌≡◌, ◌≢◌, ℕ, zero, suc, ◌+◌, ◌-◌, ◌*◌, ◌/◌, ◌<◌, ◌≤◌, Bool, true, false, List, [], ◌∷◌, ◌++◌, length, take, drop, map, get_or, set, filter, refl, sym, ◌∙◌, ap, subst, ⊎_elim, arith}
-use Rattle.std.specs.Prelude.{◌||◌, Option, Some, None, All, nat_le, nat_lt, not, cond, ◌==◌}
-use Rattle.std.specs.List.{range_with_len}
+use Rattle.std.proofs.Common.{◌≡◌, ◌≢◌, ℕ, zero, suc, ◌+◌, ◌-◌, ◌*◌, ◌/◌, ◌<◌, ◌≤◌, false, List, [], ◌∷◌, length, take, map, get_or, set, refl, sym, ◌∙◌, ap, subst, ⊎_elim, arith}
+use Rattle.std.specs.Prelude.{Option, Some, None, All, nat_le, nat_lt, cond, ◌==◌}
 use Rattle.std.specs.List.Sorted.{IsStrictlyIncreasing}
-use Rattle.std.proofs.lemmas.Bool.{cases_eq, cases_lt, or_parts, or_from, leb-false, lt-leb, false_from_ne_true, true≢false, not-true, cond_both}
-use Rattle.std.proofs.lemmas.List.{get_or-map, get_or-set_same, get_or-set_other, get_or_past, length-set, length-map, take-set-le, take_all, get_or_append_left, get_or-append-add, length-append, get_or-take, length-take-le, ext_get_or}
-use Rattle.std.proofs.lemmas.List.Elements.{filter_passes, All-filter, All-take, All-nil, All-cons, All-head, All-tail, All-map, All-weaker}
-use Rattle.std.proofs.lemmas.List.Kept.{IsStrictlyIncreasing-filter}
-use Rattle.std.proofs.lemmas.List.FromFn.{length-range_with_len, get_or-range_with_len}
-use Rattle.casper_space.specs.Rising.{with_number, with_numbers, rising}
+use Rattle.std.proofs.lemmas.Bool.{cases_eq, cases_lt, or_parts, or_from, false_from_ne_true, true≢false, cond_both}
+use Rattle.std.proofs.lemmas.List.{get_or-map, get_or-set_same, get_or-set_other, get_or_past, length-set, length-map, take-set-le}
+use Rattle.std.proofs.lemmas.List.Elements.{All-nil, All-cons, All-head, All-tail, All-map, All-weaker}
+use Rattle.casper_space.specs.Rising.{with_number, with_numbers}
 use Rattle.casper_space.specs.Changes.{blocks_of}
 use Rattle.casper_map.specs.Faulty.{frame_at, is_faulty_beside}
 use Rattle.casper_map.specs.Levels.{names}
-use Rattle.casper_map.specs.Mapped.{Mapped, free_frames, page_count}
-use Rattle.casper_map.specs.Numbers.{number_of}
-use Rattle.casper_map.specs.Planned.{Planned, moved, frames_in, need_for, with_moves, Show, AreWithin, AreNew, IsPlan}
+use Rattle.casper_map.specs.Planned.{moved, frames_in, with_moves, AreNew}
 use Rattle.casper_map.proofs.NameLemmas.{place_named, named_at, changed_place, same_frame}
-use Rattle.casper_map.proofs.PlanLemmas.{is_free, moves_more, moves_long}
+use Rattle.casper_map.proofs.PlanLemmas.{moves_more}
 
 -- a place that gets another frame leaves a frame unnamed
 set_free : (places : List (Option ℕ)) (place new frame : ℕ) → names places frame ≡ false → new ≢ frame → names (set places place (Some new)) frame ≡ false

@@ -1,16 +1,14 @@
-use Rattle.std.proofs.Common.{◌≡◌, ◌≢◌, ℕ, zero, suc, ◌+◌, ◌-◌, ◌*◌, ◌<◌, ◌≤◌, Bool, true, false, List, [], ◌∷◌, length, get_or, set, take, refl, sym, ◌∙◌, ap, subst, ⊎_elim, inl, inr, arith}
-use Rattle.std.specs.Prelude.{◌⊎◌, ◌||◌, ◌==◌, not, Option, None, Some, filter, is_some, nat_le, replicate, cond}
-use Rattle.std.specs.List.{range_with_len}
+use Rattle.std.proofs.Common.{◌≡◌, ◌≢◌, ℕ, zero, suc, ◌+◌, ◌-◌, ◌<◌, ◌≤◌, Bool, true, false, List, [], ◌∷◌, length, set, refl, sym, ◌∙◌, ap, subst, ⊎_elim, inl, inr, arith}
+use Rattle.std.specs.Prelude.{◌⊎◌, ◌||◌, ◌==◌, Option, None, Some, is_some, cond}
 use Rattle.std.specs.Cmp.{both_ways}
-use Rattle.std.proofs.lemmas.Bool.{cases_eq, cases_lt, cases_Bool, eqb-true, eqb-false, eq-eqb, ne_eqb, or_cases, or_left, or_right, or_from, or_parts, false_from_ne_true, leb-false, lt-leb, le-leb, true≢false, not_from_true, not_from_false}
-use Rattle.std.proofs.lemmas.List.{length-set, get_or-set_same, get_or-set_other, get_or_past, get_or-replicate, length-replicate, set-set, get_or-take}
-use Rattle.std.proofs.lemmas.List.FromFn.{length-range_with_len}
+use Rattle.std.proofs.lemmas.Bool.{cases_eq, cases_lt, eqb-true, eq-eqb, ne_eqb, or_cases, or_left, or_right, false_from_ne_true, true≢false}
+use Rattle.std.proofs.lemmas.List.{length-set, get_or-set_same, get_or-set_other, get_or_past, set-set}
 use Rattle.std.proofs.lemmas.List.Sums.{sum_by-set}
 use Rattle.std.proofs.lemmas.Option.{none-some}
 use Rattle.casper_map.specs.Bits.{is_member}
-use Rattle.casper_map.specs.Faulty.{frame_at, is_faulty_beside}
+use Rattle.casper_map.specs.Faulty.{frame_at}
 use Rattle.casper_map.specs.Levels.{is_frame, names}
-use Rattle.casper_map.specs.Mapped.{Mapped, used_in, free_frames, AreApart, AreBelow, IsShadow}
+use Rattle.casper_map.specs.Mapped.{used_in, AreApart, IsShadow}
 
 pub same_frame : (one other : ℕ) → Some one ≡ Some other → one ≡ other
 same_frame one other same = cc

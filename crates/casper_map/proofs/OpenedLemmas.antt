@@ -1,7 +1,6 @@
-use Rattle.std.proofs.Common.{◌≡◌, ℕ, zero, suc, ◌+◌, ◌-◌, ◌*◌, ◌<◌, ◌≤◌, List, [], ◌∷◌, ◌++◌, length, take, map, get_or, replicate, refl, sym, ◌∙◌, ap, subst, inl, inr, arith}
-use Rattle.std.specs.Prelude.{Bool, Option, Some, None, min, Result, Ok, Err, option_map, IsErrAnd}
+use Rattle.std.proofs.Common.{◌≡◌, ℕ, ◌+◌, ◌-◌, ◌*◌, ◌<◌, ◌≤◌, List, [], ◌∷◌, ◌++◌, length, take, get_or, refl, sym, ◌∙◌, ap, subst, inl, inr, arith}
+use Rattle.std.specs.Prelude.{Bool, Option, Some, None, Result, Ok, Err, option_map, IsErrAnd}
 use Rattle.casper_root.specs.Reading.{IsOnlyRead}
-use Rattle.std.specs.List.{range_with_len}
 use Rattle.std.proofs.lemmas.List.{length-map, length-take, length-append, length-replicate, get_or-map, get_or_append_left, get_or-append-add}
 use Rattle.std.proofs.lemmas.List.FromFn.{length-map-range_with_len, get_or-map-range_with_len}
 use Rattle.casper_root.specs.Refusal.{Answers}
@@ -12,8 +11,7 @@ use Rattle.casper_map.specs.Faulty.{frame_at, first_faulty, first_pages, pages_u
 use Rattle.casper_map.specs.Levels.{level, one_reader, joined}
 use Rattle.casper_map.specs.Mapped.{Mapped}
 use Rattle.casper_map.specs.Numbers.{frame_in, number_of}
-use Rattle.casper_map.specs.Reading.{IsRead, HasNoneFrom, IsFirstBad, StandAt, root_places, levels_of, mapped_in, opened_map, unmapped}
-use Rattle.casper_map.proofs.CountLemmas.{nothing_at}
+use Rattle.casper_map.specs.Reading.{IsRead, IsFirstBad, StandAt, root_places, levels_of, mapped_in, opened_map, unmapped}
 use Rattle.casper_map.proofs.LevelLemmas.{level_long, map_at}
 use Rattle.casper_map.proofs.ReadLemmas.{read_all, read_places}
 

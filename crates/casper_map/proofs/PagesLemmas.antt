@@ -1,4 +1,4 @@
-use Rattle.std.proofs.Common.{◌≡◌, ℕ, suc, ◌+◌, ◌-◌, ◌<◌, List, [], ◌∷◌, take, drop, map, get_or, set, refl, sym, ◌∙◌, ap, ⊎_elim, arith}
+use Rattle.std.proofs.Common.{◌≡◌, ℕ, suc, ◌+◌, ◌<◌, List, [], ◌∷◌, take, drop, map, get_or, set, refl, sym, ◌∙◌, ap, ⊎_elim, arith}
 use Rattle.std.specs.Prelude.{Option, Some, All, Ok}
 use Rattle.std.proofs.lemmas.List.{drop-set-lt, drop-set-add, map-set, drop_at, length-map, get_or-map}
 use Rattle.casper_space.specs.Changes.{Change, pages_of, with_changes}
@@ -57,7 +57,7 @@ pages_with image first (move ∷ moves) (change ∷ changes) places pages same w
     (later_pages_are change changes move moves same)
     (later_items change.words (words_of_block (block_in image move.1)) (words_in changes) (words_moved image moves) words) step
 
--- moves of lower places leave those behind
+-- moves of lower places leave those after
 pub moves_behind : (moves : List (ℕ × ℕ)) (places : List (Option ℕ)) (first : ℕ) → All (λ move. move.0 < first) moves → drop first (with_moves 0 moves places) ≡ drop first places
 moves_behind [] places first below = refl
 moves_behind (move ∷ moves) places first below =

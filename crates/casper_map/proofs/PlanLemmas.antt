@@ -1,15 +1,15 @@
-use Rattle.std.proofs.Common.{◌≡◌, ◌≢◌, ℕ, zero, suc, ◌+◌, ◌-◌, ◌*◌, ◌/◌, ◌<◌, ◌≤◌, Bool, true, false, List, [], ◌∷◌, ◌++◌, length, take, map, get_or, set, filter, refl, sym, ◌∙◌, ap, subst, ⊎_elim, arith}
-use Rattle.std.specs.Prelude.{Option, Some, None, not, All, fold}
+use Rattle.std.proofs.Common.{◌≡◌, ◌≢◌, ℕ, zero, suc, ◌+◌, ◌-◌, ◌<◌, ◌≤◌, Bool, true, false, List, [], ◌∷◌, ◌++◌, length, take, get_or, set, filter, refl, sym, ◌∙◌, ap, subst, ⊎_elim, arith}
+use Rattle.std.specs.Prelude.{Option, Some, None, not, All}
 use Rattle.std.specs.List.{range_with_len}
 use Rattle.std.specs.List.Sorted.{IsStrictlyIncreasing}
-use Rattle.std.proofs.lemmas.Bool.{cases_eq, cases_lt, cond-true, cond-false}
+use Rattle.std.proofs.lemmas.Bool.{cases_eq, cond-true, cond-false}
 use Rattle.std.proofs.lemmas.List.{length-set, get_or-set_same, get_or-set_other, length-append, take_at, append-nil}
 use Rattle.std.proofs.lemmas.List.Elements.{filter-append}
 use Rattle.std.proofs.lemmas.List.Sums.{fold_more}
 use Rattle.casper_map.specs.Bits.{is_member, IsNextFree}
 use Rattle.casper_map.specs.Faulty.{frame_at}
 use Rattle.casper_map.specs.Levels.{names}
-use Rattle.casper_map.specs.Mapped.{Mapped, IsShadow, free_frames}
+use Rattle.casper_map.specs.Mapped.{IsShadow}
 use Rattle.casper_map.specs.Numbers.{number_of}
 use Rattle.casper_map.specs.Planned.{Show, with_moves}
 
@@ -96,7 +96,7 @@ last_passing test n k fails passes =
     ∙ ap (λ (list : List ℕ). list ++ filter test (range_with_len (n + k) 1)) (none_passing test n k fails)
     ∙ cond-true (test (n + k)) ((n + k) ∷ []) [] passes
 
--- the next number that passes, behind those that passed
+-- the next number that passes, after those that passed
 pub passing_more : (test : ℕ → Bool) (from next : ℕ) → from ≤ next → test next ≡ true → ((j : ℕ) → from ≤ j → j < next → test j ≡ false)
     → filter test (range_with_len 0 (next + 1)) ≡ filter test (range_with_len 0 from) ++ next ∷ []
 passing_more test from next high passes fails =

@@ -1,8 +1,8 @@
-use Rattle.std.proofs.Common.{◌≡◌, ◌≢◌, ℕ, zero, suc, ◌+◌, ◌-◌, ◌*◌, ◌<◌, ◌≤◌, Bool, true, false, List, [], ◌∷◌, ◌++◌, length, take, drop, map, get_or, filter, refl, sym, ◌∙◌, ap, subst, arith}
-use Rattle.std.specs.Prelude.{◌||◌, Option, Some, None, All, nat_le, not}
+use Rattle.std.proofs.Common.{◌≡◌, ℕ, ◌+◌, ◌*◌, ◌<◌, true, false, List, ◌++◌, length, take, map, get_or, sym, ◌∙◌, ap, subst, arith}
+use Rattle.std.specs.Prelude.{Some, None, All, nat_le}
 use Rattle.std.specs.List.{range_with_len}
 use Rattle.std.specs.List.Sorted.{IsStrictlyIncreasing}
-use Rattle.std.proofs.lemmas.Bool.{or_parts, or_from, leb-false, lt-leb, not-true}
+use Rattle.std.proofs.lemmas.Bool.{or_parts, or_from, lt-leb, not-true}
 use Rattle.std.proofs.lemmas.List.{get_or-map, length-map, take_all, get_or_append_left, get_or-append-add, length-append, get_or-take, length-take, length-take-le, ext_get_or, get_or_default}
 use Rattle.std.proofs.lemmas.List.Elements.{filter_passes, All-filter, All-take}
 use Rattle.std.proofs.lemmas.List.Kept.{IsStrictlyIncreasing-filter}
@@ -10,7 +10,7 @@ use Rattle.std.proofs.lemmas.List.FromFn.{length-range_with_len, get_or-range_wi
 use Rattle.casper_space.specs.Changes.{blocks_of}
 use Rattle.casper_map.specs.Faulty.{frame_at, is_faulty_beside}
 use Rattle.casper_map.specs.Levels.{names}
-use Rattle.casper_map.specs.Mapped.{Mapped, free_frames, page_count, HasBlocks}
+use Rattle.casper_map.specs.Mapped.{Mapped, free_frames, HasBlocks}
 use Rattle.casper_map.specs.Numbers.{number_of}
 use Rattle.casper_map.specs.Planned.{Planned, moved, frames_in, need_for, with_moves, with_plan, map_numbers, block_numbers, Show, AreWithin, AreNew, IsPlan}
 use Rattle.casper_map.proofs.PlanLemmas.{is_free, moves_long}

@@ -1,9 +1,9 @@
-use Rattle.std.proofs.Common.{◌≡◌, ◌≢◌, ℕ, zero, suc, ◌+◌, ◌-◌, ◌*◌, ◌<◌, ◌≤◌, Bool, true, false, List, [], ◌∷◌, ◌++◌, length, take, drop, map, get_or, set, refl, sym, ◌∙◌, ap, subst, ⊎_elim, inl, inr, arith}
-use Rattle.std.specs.Prelude.{◌||◌, ◌==◌, Option, Some, None, nat_le, min, cond, Result, Ok, Err, MatchResult, slice_index, IsErrAnd}
+use Rattle.std.proofs.Common.{◌≡◌, ◌≢◌, ℕ, zero, suc, ◌+◌, ◌-◌, ◌*◌, ◌<◌, ◌≤◌, Bool, true, false, List, length, take, set, refl, sym, ◌∙◌, ap, ⊎_elim, arith}
+use Rattle.std.specs.Prelude.{◌||◌, ◌==◌, Option, Some, None, nat_le, cond, Result, Ok, Err, IsErrAnd}
 use Rattle.std.specs.List.{find, range_with_len}
 use Rattle.std.specs.Cmp.{both_ways}
-use Rattle.std.proofs.lemmas.Bool.{cases_eq, cases_lt, cases_Bool, cond-true, cond-false, cond_both, eqb-true}
-use Rattle.std.proofs.lemmas.List.{length-set, get_or-set_same, get_or-set_other, length-take, length-take-le, get_or-take, ext_get_or}
+use Rattle.std.proofs.lemmas.Bool.{cases_eq, cases_lt, cond-true, cond-false, cond_both, eqb-true}
+use Rattle.std.proofs.lemmas.List.{length-set, get_or-set_same, get_or-set_other, length-take-le, get_or-take, ext_get_or}
 use Rattle.std.proofs.lemmas.Option.{none-some}
 use Rattle.casper_root.specs.declared.fault.OpenFault.{OpenFault}
 use Rattle.casper_root.specs.declared.fault.OpenFault.TheVariants as fault
@@ -11,7 +11,7 @@ use Rattle.casper_map.specs.Faulty.{frame_at, is_faulty, is_faulty_beside, first
 use Rattle.casper_map.specs.Levels.{names}
 use Rattle.casper_map.specs.Mapped.{Mapped}
 use Rattle.casper_map.specs.Numbers.{frame_in, number_of, no_frame}
-use Rattle.casper_map.specs.Reading.{IsRead, HasNoneFrom, IsFirstBad, StandAt, HasSizesOf}
+use Rattle.casper_map.specs.Reading.{IsRead, HasNoneFrom, IsFirstBad}
 use Rattle.casper_map.proofs.NameLemmas.{place_named, named_at, place_within}
 
 -- the first number of a range that passes

@@ -1,4 +1,4 @@
-use Rattle.std.proofs.Common.{◌≡◌, ◌≢◌, ℕ, zero, suc, ◌+◌, ◌-◌, ◌<◌, ◌≤◌, Bool, true, false, List, [], ◌∷◌, length, take, drop, map, get_or, set, filter, refl, sym, ◌∙◌, ap, ⊎_elim, arith}
+use Rattle.std.proofs.Common.{◌≡◌, ◌≢◌, ℕ, zero, suc, ◌+◌, ◌<◌, ◌≤◌, Bool, true, false, List, [], ◌∷◌, length, take, drop, map, get_or, set, filter, refl, sym, ◌∙◌, ap, ⊎_elim, arith}
 use Rattle.std.specs.Prelude.{Option, Some, None, All, is_some, cond, ◌==◌, nat_lt}
 use Rattle.std.specs.List.{range_with_len}
 use Rattle.std.proofs.lemmas.Bool.{cases_lt, cases_eq, cond-true, cond-false, eq-eqb, ne_eqb, lt-ltb, le-ltb}
@@ -133,7 +133,7 @@ framed_moves (move ∷ moves) places within =
     framed_moves moves (set places (0 + move.0) (Some move.1)) later
     ∙ ap (λ (list : List ℕ). with_numbers list (moved moves)) (ap (λ (at : ℕ). framed (set places at (Some move.1))) e ∙ framed_set places move.0 move.1 (within 0 move (omega arith)))
 
--- moves of the places from one on, said of those behind it
+-- moves of the places from one on, said of those after it
 moves_dropped : (first : ℕ) (moves : List (ℕ × ℕ)) (places : List (Option ℕ)) → drop first (with_moves first moves places) ≡ with_moves 0 moves (drop first places)
 moves_dropped first [] places = refl
 moves_dropped first (move ∷ moves) places =

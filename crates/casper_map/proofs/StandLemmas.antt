@@ -1,11 +1,9 @@
-use Rattle.std.proofs.Common.{◌≡◌, ℕ, ◌+◌, ◌-◌, ◌≤◌, Bool, true, false, List, [], ◌∷◌, ◌++◌, take, map, refl, sym, ◌∙◌, ap, subst, ⊎_elim, arith}
-use Rattle.std.specs.Prelude.{◌||◌, ◌&&◌, not, nat_lt, nat_le, Option, Some, None, Result}
-use Rattle.std.specs.List.{list_any, flat_map}
+use Rattle.std.proofs.Common.{◌≡◌, ℕ, ◌+◌, ◌-◌, true, List, [], ◌∷◌, ◌++◌, take, map, refl, sym, ◌∙◌, ap, subst, ⊎_elim, arith}
+use Rattle.std.specs.Prelude.{not, nat_lt, nat_le, Option, Some, None}
 use Rattle.std.proofs.lemmas.Bool.{or_left, or_right, or_from, or_cases, true≢false, le-ltb, and_right, not_from_true, eq-eqb}
-use Rattle.casper_disk.specs.Disk.{AgreesBut, block_at}
-use Rattle.casper_map.specs.Faulty.{bad_levels, refused, opened_array}
-use Rattle.casper_map.specs.Levels.{Reader, Opened, entries_in, level, passed, reached, joined, names, is_frame, page_in, array_of, free_in, block_in}
-use Rattle.casper_map.specs.MapLaws.{ArraysStand, besides}
+use Rattle.casper_map.specs.Faulty.{bad_levels, refused}
+use Rattle.casper_map.specs.Levels.{Reader, Opened, entries_in, level, passed, reached, joined, names, is_frame, page_in, free_in, block_in}
+use Rattle.casper_map.specs.MapLaws.{ArraysStand}
 
 -- the blocks of all frames that some places have are the same
 abbrev pub Same : List (List ℕ) → List (List ℕ) → List (Option ℕ) → Type 0

@@ -7,8 +7,8 @@ abbrev pub has_bit : List ℕ → ℕ → Bool
 has_bit words frame = bit_at (slice_index words (frame / 64)) (frame % 64) == 1
 
 -- for each of so many frames, whether the set has it
-abbrev pub members_of : List ℕ → ℕ → List Bool
-members_of words size = map (has_bit words) (range_with_len 0 size)
+abbrev pub flags_of_bits : List ℕ → ℕ → List Bool
+flags_of_bits words size = map (has_bit words) (range_with_len 0 size)
 
 -- whether a set has a frame
 abbrev pub is_member : List Bool → ℕ → Bool

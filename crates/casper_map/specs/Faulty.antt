@@ -1,4 +1,4 @@
-use Rattle.std.specs.Prelude.{ℕ, ◌*◌, ◌||◌, Bool, false, true, nat_le, List, [], ◌∷◌, ◌++◌, length, take, map, slice_index, slice_index_or, Option, None, Some, Result, Ok, Err, option_map, ◌≡◌, refl}
+use Rattle.std.specs.Prelude.{ℕ, ◌*◌, ◌||◌, Bool, false, nat_le, List, [], ◌∷◌, ◌++◌, length, take, map, slice_index, slice_index_or, Option, None, Some, Result, Ok, Err, option_map, ◌≡◌, refl}
 use Rattle.std.specs.List.{find, range_with_len}
 use Rattle.casper_root.specs.declared.fault.OpenFault.{OpenFault}
 use Rattle.casper_root.specs.declared.fault.OpenFault.TheVariants as fault

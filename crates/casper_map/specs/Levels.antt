@@ -1,4 +1,4 @@
-use Rattle.std.specs.Prelude.{ℕ, ◌+◌, ◌-◌, ◌&&◌, ◌||◌, ◌==◌, Bool, false, not, nat_le, List, [], ◌∷◌, ◌++◌, take, map, replicate, Option, None, Some}
+use Rattle.std.specs.Prelude.{ℕ, ◌+◌, ◌-◌, ◌&&◌, ◌==◌, Bool, false, not, nat_le, List, [], ◌∷◌, ◌++◌, take, map, replicate, Option, None, Some}
 use Rattle.std.specs.List.{flat_map, list_any}
 use Rattle.casper_words.specs.BlockWords.{words_of_block}
 use Rattle.casper_disk.specs.Disk.{block_at}
@@ -9,7 +9,7 @@ pub record Reader : Type 0 where
   pub entries : List ℕ → List (Option ℕ)
   pub words : List ℕ → List ℕ
 
--- the block of a frame, behind the fixed ones
+-- the block of a frame, after the fixed ones
 abbrev pub block_in : List (List ℕ) → ℕ → List ℕ
 block_in blocks frame = block_at blocks (5 + frame)
 
@@ -32,7 +32,7 @@ abbrev pub reached : Reader → List (List ℕ) → List ℕ → List (Option �
 reached reader blocks [] places = places
 reached reader blocks (count ∷ counts) places = reached reader blocks counts (take count (level reader blocks places))
 
--- levels one behind the other
+-- levels one after the other
 abbrev pub joined : List (List (Option ℕ)) → List (Option ℕ)
 joined [] = []
 joined (places ∷ []) = places

@@ -1,4 +1,4 @@
-use Rattle.std.specs.Prelude.{◌≡◌, ℕ, ◌+◌, ◌-◌, ◌*◌, ◌<◌, ◌≤◌, Bool, not, List, length, take, drop, filter, count_by, is_some, Option, None, Some}
+use Rattle.std.specs.Prelude.{◌≡◌, ℕ, ◌+◌, ◌-◌, ◌*◌, ◌<◌, ◌≤◌, Bool, not, List, length, take, drop, filter, count_by, is_some, Option, Some}
 use Rattle.std.specs.List.{range_with_len}
 use Rattle.casper_map.specs.Bits.{is_member}
 use Rattle.casper_map.specs.Faulty.{frame_at}

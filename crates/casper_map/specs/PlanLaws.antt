@@ -1,4 +1,4 @@
-use Rattle.std.specs.Prelude.{◌≡◌, ◌≢◌, ◌↔◌, ℕ, ◌+◌, ◌<◌, true, false, List, [], ◌∷◌, ◌++◌, length, map, All, Option, None, Some, Result, Ok, Err}
+use Rattle.std.specs.Prelude.{◌≡◌, ◌≢◌, ◌↔◌, ℕ, ◌+◌, ◌<◌, true, false, List, [], ◌∷◌, ◌++◌, length, map, All, Option, None, Some, Ok}
 use Rattle.std.specs.List.Sorted.{IsStrictlyIncreasing}
 use Rattle.casper_disk.specs.Disk.{AgreesBut}
 use Rattle.casper_root.specs.Fitting.{AreSizes}

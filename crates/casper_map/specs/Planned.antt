@@ -1,9 +1,9 @@
-use Rattle.std.specs.Prelude.{◌≡◌, ℕ, ◌+◌, ◌-◌, ◌<◌, ◌≤◌, ◌*◌, List, ◌++◌, length, take, drop, map, fold, All, slice_set, slice_index, false, Option, Some}
+use Rattle.std.specs.Prelude.{◌≡◌, ℕ, ◌+◌, ◌<◌, ◌≤◌, ◌*◌, List, ◌++◌, length, take, map, fold, All, slice_set, slice_index, false, Option, Some}
 use Rattle.std.specs.List.{range_with_len}
 use Rattle.std.specs.List.Sorted.{IsStrictlyIncreasing}
 use Rattle.casper_space.specs.Changes.{blocks_of}
 use Rattle.casper_map.specs.Faulty.{frame_at, is_faulty_beside}
-use Rattle.casper_map.specs.Mapped.{Mapped, page_count, block_frames, page_frames, free_frames}
+use Rattle.casper_map.specs.Mapped.{Mapped, page_count, block_frames, free_frames}
 use Rattle.casper_map.specs.Numbers.{number_of}
 
 -- a plan: for each changed page its new frame, and for each of their map blocks
@@ -43,7 +43,7 @@ with_plan plan held = record held { places = with_moves held.first_page plan.pag
 abbrev pub map_numbers : Mapped → List ℕ
 map_numbers held = map number_of (block_frames held)
 
--- the frame numbers of 1,024 pages from a map block's first page on, and behind the last page those of no frame
+-- the frame numbers of 1,024 pages from a map block's first page on, and after the last page those of no frame
 abbrev pub block_numbers : Mapped → ℕ → List ℕ
 block_numbers held block = map (λ entry. number_of (frame_at held.places (held.first_page + 1024 * block + entry))) (range_with_len 0 1024)
 

@@ -1,4 +1,4 @@
-use Rattle.std.specs.Prelude.{◌≡◌, ◌⊎◌, ℕ, ◌+◌, ◌-◌, ◌*◌, ◌<◌, ◌≤◌, false, List, [], ◌∷◌, ◌++◌, length, map, take, slice_index, replicate, min, MatchResult, Option, None, Some, Result, Ok, Err}
+use Rattle.std.specs.Prelude.{◌≡◌, ◌⊎◌, ℕ, ◌+◌, ◌-◌, ◌*◌, ◌<◌, ◌≤◌, false, List, [], ◌∷◌, ◌++◌, length, map, take, slice_index, replicate, min, MatchResult, Option, None, Some, Result}
 use Rattle.casper_root.specs.declared.fault.OpenFault.{OpenFault}
 use Rattle.casper_root.specs.declared.fault.OpenFault.TheVariants as fault
 use Rattle.casper_root.specs.declared.roots.Roots.{Roots}
@@ -58,7 +58,7 @@ StandAt place numbers all = (k : ℕ) → k < length numbers → frame_at all (p
 abbrev pub unmapped : ℕ → ℕ → ℕ → Mapped
 unmapped blocks pages frames = record { first_page = blocks; places = replicate (blocks + pages) None; frames = frames }
 
--- the first place behind the pages of a map block
+-- the first place after the pages of a map block
 abbrev pub end_of_block : ℕ → Mapped → ℕ
 end_of_block number held = held.first_page + min (1024 * (number + 1)) (length held.places - held.first_page)
 

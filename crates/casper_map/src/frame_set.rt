@@ -15,11 +15,11 @@ pub(crate) struct FrameSet {
 
 impl Model for FrameSet {
     ghost use Rattle.std.specs.Prelude.{◌≤◌, ◌*◌, Bool, List, length};
-    ghost use Rattle.casper_map.specs.Bits.{members_of};
+    ghost use Rattle.casper_map.specs.Bits.{flags_of_bits};
 
     ghost Value = { List Bool };
 
-    ghost view = { λ set. members_of set.words.items set.size };
+    ghost view = { λ set. flags_of_bits set.words.items set.size };
 
     ghost invariant = { λ set. (set.size ≤ 64 * length set.words.items) × (set.size ≤ 65536) };
 }

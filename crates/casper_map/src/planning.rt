@@ -21,7 +21,8 @@ impl ShadowMap {
         ensures pages { IfOk result (λ plan. moved plan.pages ≡ pages.now) }
         ensures full { IsErrOf result PlanFault.Memory
             ⊎ ((need free : ℕ) → IsErrOf result (PlanFault.Full need free)
-            ↔ ((need ≡ need_for pages.now) × (free ≡ length (free_frames self.now)) × (free < need))) }
+            ↔ ((need ≡ need_for pages.now) × (free ≡ length (free_frames self.now))
+            × (free < need))) }
     {
         let most = self.pages() as usize;
         prove!(pages.len() <= most);
@@ -101,7 +102,8 @@ impl ShadowMap {
     fn move_all(&mut self, first: u32, moves: &[(u32, u32)])
         requires within { AreWithin first self.old.places moves.now }
         requires new_frames { AreNew self.old.frames self.old.places moves.now }
-        ensures { self.new ≡ record self.old { places = with_moves first moves.now self.old.places } }
+        ensures { self.new
+            ≡ record self.old { places = with_moves first moves.now self.old.places } }
     {
         for (target, frame) in moves {
             self.move_to(first as usize + *target as usize, *frame);
@@ -125,7 +127,8 @@ impl ShadowMap {
 
 /// Puts the new frames of moves into a list of numbers, of which the first is that of a page or map block.
 fn put_moves(moves: &[(u32, u32)], first: u32, numbers: &mut [u32])
-    ensures { (places : List (Option ℕ)) (base : ℕ) → AreWithin base places moves.now → Show places (base + first) numbers.old
+    ensures { (places : List (Option ℕ)) (base : ℕ) → AreWithin base places moves.now
+        → Show places (base + first) numbers.old
         → Show (with_moves base moves.now places) (base + first) numbers.new }
 {
     for (target, frame) in moves {

@@ -1,10 +1,11 @@
 ghost use Rattle.std.specs.Prelude.{◌≡◌, ◌≢◌, ℕ, ◌+◌, ◌*◌, ◌≤◌, ◌<◌, Option, List, Err, length, IsTrue, IfOk, OnOk, MatchResult};
 ghost use Rattle.casper_map.specs.Mapped.{page_count};
-ghost use Rattle.casper_words.specs.Count.{Rose};
+ghost use Rattle.casper_words.specs.Count.{FaultCountRose};
 ghost use Rattle.casper_root.specs.Fitting.{AreSizes};
 ghost use Rattle.casper_root.specs.Format.{map_blocks_of};
 ghost use Rattle.casper_root.specs.Reading.{IsOnlyRead};
 ghost use Rattle.casper_root.specs.Refusal.{Answers};
+ghost use Rattle.casper_map.specs.PlanLaws.{IsWhole};
 ghost use Rattle.casper_map.specs.Reading.{opened_map, IsRead, IsFirstBad, StandAt, ReadsBlock, HasSizesOf, HasNoneFrom, end_of_block};
 
 use crate::ShadowMap;
@@ -27,9 +28,13 @@ impl ShadowMap {
         requires room { 5 + roots.now.header.frames ≤ D.size disk.old }
         ensures map { IsTrue D.tells → Answers result (opened_map (D.content disk.old) roots.now) }
         ensures frames { IfOk result (λ map. map.frames ≡ roots.now.header.frames) }
+        ensures whole { IfOk result (IsWhole roots.now) }
         ensures size { D.size disk.new ≡ D.size disk.old }
-        ensures read { IsTrue D.tells → IsOnlyRead D.content D.loose D.moment D.images_since disk.old disk.new }
-        ensures counted { result ≡ Err OpenFault.Disk → Rose (D.faults disk.old) (D.faults disk.new) }
+        ensures leads { D.leads_to disk.old disk.new }
+        ensures read { IsTrue D.tells
+            → IsOnlyRead D.content D.loose D.moment D.images_since disk.old disk.new }
+        ensures counted { result ≡ Err OpenFault.Disk
+            → FaultCountRose (D.faults disk.old) (D.faults disk.new) }
         ensures never_falls { D.faults disk.old ≤ D.faults disk.new }
     {
         let numbers = roots.body.maps.as_slice();
@@ -40,6 +45,7 @@ impl ShadowMap {
         for number in 0..blocks {
             map.read_block(disk, number, &mut block)?;
         }
+        prove!(map.used() <= map.frames());
         Ok(map)
     }
 
@@ -54,12 +60,16 @@ impl ShadowMap {
         requires blocks { self.old.first_page ≡ map_blocks_of (page_count self.old) }
         requires room { 5 + self.old.frames ≤ D.size disk.old }
         requires unread { HasNoneFrom (self.old.first_page + 1024 * number) self.old }
-        ensures pages { IsTrue D.tells → (maps : List (Option ℕ)) → ReadsBlock (D.content disk.old) number maps self.old self.new result }
+        ensures pages { IsTrue D.tells → (maps : List (Option ℕ))
+            → ReadsBlock (D.content disk.old) number maps self.old self.new result }
         ensures unread { OnOk result (HasNoneFrom (end_of_block number self.old) self.new) }
         ensures sizes { HasSizesOf self.old self.new }
         ensures size { D.size disk.new ≡ D.size disk.old }
-        ensures read { IsTrue D.tells → IsOnlyRead D.content D.loose D.moment D.images_since disk.old disk.new }
-        ensures counted { result ≡ Err OpenFault.Disk → Rose (D.faults disk.old) (D.faults disk.new) }
+        ensures leads { D.leads_to disk.old disk.new }
+        ensures read { IsTrue D.tells
+            → IsOnlyRead D.content D.loose D.moment D.images_since disk.old disk.new }
+        ensures counted { result ≡ Err OpenFault.Disk
+            → FaultCountRose (D.faults disk.old) (D.faults disk.new) }
         ensures never_falls { D.faults disk.old ≤ D.faults disk.new }
     {
         let first = self.blocks();
@@ -86,7 +96,8 @@ impl ShadowMap {
         requires unread { HasNoneFrom place self.old }
         requires early { place ≤ 16400 }
         requires few { length numbers.now ≤ 16384 }
-        ensures put { (all : List (Option ℕ)) → IsRead place all self.old → StandAt place numbers.now all
+        ensures put { (all : List (Option ℕ)) → IsRead place all self.old
+            → StandAt place numbers.now all
             → MatchResult result (λ _. IsRead (place + length numbers.now) all self.new)
             (IsFirstBad self.old.frames all place (place + length numbers.now) page each) }
         ensures undisturbed { result ≢ Err OpenFault.Disk }

@@ -15,7 +15,7 @@ use std::marker::Model;
 /// first, and the number of frames.
 #[derive(Drop)]
 pub struct ShadowMap {
-    /// The frames of the map blocks and behind them those of the pages.
+    /// The frames of the map blocks and after them those of the pages.
     pub(crate) places: Vec<Option<u32>>,
     /// The place of page 0, which is the number of map blocks.
     pub(crate) first_page: u32,
@@ -37,13 +37,8 @@ impl Model for ShadowMap {
 }
 
 impl ShadowMap {
-    /// A map of so many map blocks, pages and frames in which nothing has a frame.
-    pub(crate) fn new(
-        alloc: Global,
-        blocks: u32,
-        pages: u32,
-        frames: u32,
-    ) -> Result<ShadowMap, Memory>
+    /// The map of a new store, of so many map blocks, pages and frames: nothing has a frame.
+    pub fn new(alloc: Global, blocks: u32, pages: u32, frames: u32) -> Result<ShadowMap, Memory>
         requires blocks { blocks ≤ 16 }
         requires pages { pages ≤ 16384 }
         requires mapped { pages ≤ 1024 * blocks }
@@ -117,8 +112,11 @@ impl ShadowMap {
     pub(crate) fn put(&mut self, place: usize, page: u32, number: u32) -> Result<(), OpenFault>
         requires within { place < length self.old.places }
         requires without { frame_at self.old.places place ≡ None }
-        ensures put { OnOk result (self.new ≡ record self.old { places = slice_set self.old.places place (frame_in number) }) }
-        ensures answer { result ≡ (if is_faulty_beside self.old.frames self.old.places (frame_in number) then Err (OpenFault.BadMap page number) else Ok record {}) }
+        ensures put { OnOk result (self.new
+            ≡ record self.old { places = slice_set self.old.places place (frame_in number) }) }
+        ensures answer { result
+            ≡ (if is_faulty_beside self.old.frames self.old.places (frame_in number) then Err
+            (OpenFault.BadMap page number) else Ok record {}) }
         ensures err { OnErr result (self.new ≡ self.old) }
     {
         let Some(frame) = frame_in(number) else {
@@ -138,7 +136,8 @@ impl ShadowMap {
         requires within { place < length self.old.places }
         requires in_range { frame < self.old.frames }
         requires free { is_faulty_beside self.old.frames self.old.places (Some frame) ≡ false }
-        ensures { self.new ≡ record self.old { places = slice_set self.old.places place (Some frame) } }
+        ensures { self.new
+            ≡ record self.old { places = slice_set self.old.places place (Some frame) } }
     {
         match self.places[place] {
             Some(old) => self.named.remove(old),

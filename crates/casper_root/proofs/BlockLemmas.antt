@@ -47,7 +47,7 @@ small_in_body table (seq ∷ values) (suc j) same fit long low high =
     let in_body : FitFields body_fields (seq ∷ values) = subst P same fit in
     small_numbers 8 17 values j in_body.1 (omega arith) (omega arith)
 
--- the numbers behind the first two
+-- the numbers after the first two
 pub numbers_behind : (values numbers : List ℕ) → length values ≡ 18 → length numbers ≡ 16 → ((k : ℕ) → k < 16 → get_or numbers k 0 ≡ get_or values (k + 2) 0) → numbers ≡ drop 2 values
 numbers_behind values numbers long size each =
     let rest : length (drop 2 values) ≡ length values - 2 = length-drop 2 values in

@@ -17,13 +17,13 @@ use Rattle.casper_root.specs.declared.body.Body.{Body}
 use Rattle.casper_root.specs.declared.found.FoundBody.{FoundBody}
 use Rattle.casper_root.proofs.BlockLemmas.{numbers_fit}
 
--- numbers of four bytes stand one behind the other
+-- numbers of four bytes stand one after the other
 numbers_stand : (from byte count : ℕ) → from ≤ byte → byte + 4 * count ≤ 4096 → StandFrom from (numbers_from byte count)
 numbers_stand from byte zero before within = tt
 numbers_stand from byte (suc count) before within =
     (before, record { width = inl refl; within = omega arith }, numbers_stand (byte + 4) (byte + 4) count (omega arith) (omega arith))
 
--- a number of eight bytes and others of four behind it
+-- a number of eight bytes and others of four after it
 eight_and_others : (count : ℕ) → count ≤ 17 → IsTable (record { offset = 0; width = 8 } ∷ numbers_from 8 count)
 eight_and_others count few = (omega arith, record { width = inr refl; within = omega arith }, numbers_stand 8 8 count (omega arith) (omega arith))
 
@@ -89,7 +89,7 @@ padded_small size list small k = elim (cases_lt k (length list)) [
   | inr past ↦ rw (get_or-append_right list (replicate (size - length list) 0) (length list) k 0 refl past) (zeros (size - length list) (k - length list))
 ]
 
--- a list with zeros behind it fills its places
+-- a list with zeros after it fills its places
 length-padded : (size : ℕ) (list : List ℕ) → length list ≤ size → length (padded size 0 list) ≡ size
 length-padded size list few =
     let rest : length {A = ℕ} (replicate (size - length list) 0) ≡ size - length list = length-replicate {A = ℕ} (size - length list) 0 in

@@ -8,3 +8,4 @@ pub mod OpeningLawsLemmas
 pub mod WrittenLemmas
 pub mod NextBodyLemmas
 pub mod WritingLemmas
+pub mod PartLemmas

@@ -6,7 +6,7 @@ use Rattle.casper_words.specs.Padded.{padded}
 use Rattle.casper_root.specs.declared.header.Header.{Header}
 use Rattle.casper_root.specs.declared.body.Body.{Body}
 
--- so many numbers of four bytes, one behind the other from this byte on
+-- so many numbers of four bytes, one after the other from this byte on
 abbrev pub numbers_from : ℕ → ℕ → List Field
 numbers_from byte zero = []
 numbers_from byte (suc count) = record { offset = byte; width = 4 } ∷ numbers_from (byte + 4) count

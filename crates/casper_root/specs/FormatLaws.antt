@@ -11,7 +11,7 @@ abbrev pub HeadersAreRead : Type 0
 HeadersAreRead = (header : Header) → header.pages < 2 ^ 32 → header.frames < 2 ^ 32
     → (has_name (header_block header) ≡ true) × (version_of (header_block header) ≡ 1) × (header_of (header_block header) ≡ header)
 
--- the block of a body has its sequence number, the count of its map blocks, and their frame numbers with zeros behind them
+-- the block of a body has its sequence number, the count of its map blocks, and their frame numbers with zeros after them
 abbrev pub BodiesAreRead : Type 0
 BodiesAreRead = (body : Body) → body.seq < 2 ^ 64 → length body.maps ≤ 16 → ((k : ℕ) → slice_index body.maps k < 2 ^ 32)
     → (body_found (body_block body) ≡ record { seq = body.seq; count = length body.maps; numbers = padded 16 0 body.maps })

@@ -10,3 +10,4 @@ pub mod Refusal
 pub mod Slots
 pub mod Spare
 pub mod WritingLaws
+pub mod Parts

@@ -6,6 +6,7 @@ use Rattle.casper_root.specs.Choice.{is_open, current_slot}
 use Rattle.casper_root.specs.Format.{header_fields, body_fields, map_blocks_of}
 use Rattle.casper_root.specs.Refusal.{first_refusal}
 use Rattle.casper_root.specs.declared.body.Body.{Body}
+use Rattle.casper_root.specs.declared.current_root.CurrentRoot.{CurrentRoot}
 use Rattle.casper_root.specs.declared.fault.OpenFault.{OpenFault}
 use Rattle.casper_root.specs.declared.fault.OpenFault.TheVariants as fault
 use Rattle.casper_root.specs.declared.found.FoundBody.{FoundBody}
@@ -71,15 +72,27 @@ abbrev pub is_spare_closed : Found → Slot → Bool
 is_spare_closed found slot.A = not (is_open found.gate_b)
 is_spare_closed found slot.B = not (is_open found.gate_a)
 
--- a body of a store of these pages: its sequence number is 1 to 281,474,976,710,655, and its count that of the map blocks
+-- a body of so many map blocks: its sequence number is 1 to 281,474,976,710,655, and its count is theirs
+abbrev pub is_body_with : ℕ → FoundBody → Bool
+is_body_with maps body = nat_le 1 body.seq && nat_le body.seq 281474976710655 && (body.count == maps)
+
+-- a body of a store of these pages
 abbrev pub is_body_of : ℕ → FoundBody → Bool
-is_body_of pages body = nat_le 1 body.seq && nat_le body.seq 281474976710655 && (body.count == map_blocks_of pages)
+is_body_of pages body = is_body_with (map_blocks_of pages) body
 
 -- the body that was found
 abbrev pub as_body : FoundBody → Body
 as_body found = record { seq = found.seq; maps = take found.count found.numbers }
 
--- the current root
+-- the current root, whatever the header is
+abbrev pub current_in : Found → CurrentRoot
+current_in found = record {
+  slot = slot_of found;
+  body = as_body (body_in found (slot_of found));
+  spare_closed = is_spare_closed found (slot_of found);
+}
+
+-- the current root under a header
 abbrev pub current_root : Header → Found → Roots
 current_root header found = record {
   header = header;
@@ -104,15 +117,19 @@ header_refusals block =
 abbrev pub room_refusals : ℕ → Header → List (Bool × OpenFault)
 room_refusals count header = (nat_lt count (5 + header.frames), fault.Short (5 + header.frames) count) ∷ []
 
--- a body that is none of a store of these pages
+-- a body that is none of so many map blocks
 abbrev pub body_refusals : ℕ → FoundBody → List (Bool × OpenFault)
-body_refusals pages body = (not (is_body_of pages body), fault.BadBody body.seq body.count) ∷ []
+body_refusals maps body = (not (is_body_with maps body), fault.BadBody body.seq body.count) ∷ []
 
--- no open gate, or a current root whose body is none
-abbrev pub root_refusals : Header → Found → List (Bool × OpenFault)
-root_refusals header found =
+-- no open gate, or a current root whose body is none of so many map blocks
+abbrev pub pair_refusals : ℕ → Found → List (Bool × OpenFault)
+pair_refusals maps found =
     (not (is_open found.gate_a) && not (is_open found.gate_b), fault.NoRoot)
-    ∷ body_refusals header.pages (body_in found (slot_of found))
+    ∷ body_refusals maps (body_in found (slot_of found))
+
+-- the same under a header, which says how many there are
+abbrev pub root_refusals : Header → Found → List (Bool × OpenFault)
+root_refusals header found = pair_refusals (map_blocks_of header.pages) found
 
 -- all refusals of the blocks of a disk, in their order
 abbrev pub refusals : List (List ℕ) → List (Bool × OpenFault)

@@ -12,7 +12,7 @@ use Rattle.casper_root.specs.declared.roots.Roots.{Roots}
 use Rattle.casper_root.specs.declared.slot.Slot.{Slot}
 use Rattle.casper_root.specs.declared.slot.Slot.TheVariants as slot
 
--- a block of a frame, behind the fixed ones
+-- a block of a frame, after the fixed ones
 abbrev pub is_of_frame : ℕ → Bool
 is_of_frame at = nat_le 5 at
 

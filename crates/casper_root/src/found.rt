@@ -1,5 +1,5 @@
 ghost use Rattle.std.specs.Prelude.{◌≡◌, ◌≤◌, ◌<◌, IsTrue, IfOk, OnErr, slice_index};
-ghost use Rattle.casper_words.specs.Count.{Rose};
+ghost use Rattle.casper_words.specs.Count.{FaultCountRose};
 ghost use Rattle.casper_disk.specs.Disk.{block_at};
 ghost use Rattle.casper_root.specs.Opening.{body_found, roots_found};
 ghost use Rattle.casper_root.specs.Reading.{IsOnlyRead};
@@ -46,11 +46,13 @@ impl FoundBody {
 /// Reads the two gates and then the two bodies.
 pub(crate) fn read_found<D: Disk>(disk: &mut D, block: &mut Block) -> Result<Found, DiskFault>
     requires { 5 ≤ D.size disk.old }
-    ensures found { IsTrue D.tells → IfOk result (λ found. found ≡ roots_found (D.content disk.old)) }
+    ensures found { IsTrue D.tells
+        → IfOk result (λ found. found ≡ roots_found (D.content disk.old)) }
     ensures size { D.size disk.new ≡ D.size disk.old }
     ensures leads { D.leads_to disk.old disk.new }
-    ensures read { IsTrue D.tells → IsOnlyRead D.content D.loose D.moment D.images_since disk.old disk.new }
-    ensures counted { OnErr result (Rose (D.faults disk.old) (D.faults disk.new)) }
+    ensures read { IsTrue D.tells
+        → IsOnlyRead D.content D.loose D.moment D.images_since disk.old disk.new }
+    ensures counted { OnErr result (FaultCountRose (D.faults disk.old) (D.faults disk.new)) }
     ensures never_falls { D.faults disk.old ≤ D.faults disk.new }
 {
     let gate_a = read_gate(disk, 2, block)?;
@@ -67,11 +69,13 @@ pub(crate) fn read_found<D: Disk>(disk: &mut D, block: &mut Block) -> Result<Fou
 
 fn read_gate<D: Disk>(disk: &mut D, at: u32, block: &mut Block) -> Result<u8, DiskFault>
     requires { at < D.size disk.old }
-    ensures gate { IsTrue D.tells → IfOk result (λ gate. gate ≡ slice_index (block_at (D.content disk.old) at) 0) }
+    ensures gate { IsTrue D.tells
+        → IfOk result (λ gate. gate ≡ slice_index (block_at (D.content disk.old) at) 0) }
     ensures size { D.size disk.new ≡ D.size disk.old }
     ensures leads { D.leads_to disk.old disk.new }
-    ensures read { IsTrue D.tells → IsOnlyRead D.content D.loose D.moment D.images_since disk.old disk.new }
-    ensures counted { OnErr result (Rose (D.faults disk.old) (D.faults disk.new)) }
+    ensures read { IsTrue D.tells
+        → IsOnlyRead D.content D.loose D.moment D.images_since disk.old disk.new }
+    ensures counted { OnErr result (FaultCountRose (D.faults disk.old) (D.faults disk.new)) }
     ensures never_falls { D.faults disk.old ≤ D.faults disk.new }
 {
     disk.read(at, block)?;
@@ -80,11 +84,13 @@ fn read_gate<D: Disk>(disk: &mut D, at: u32, block: &mut Block) -> Result<u8, Di
 
 fn read_body<D: Disk>(disk: &mut D, at: u32, block: &mut Block) -> Result<FoundBody, DiskFault>
     requires { at < D.size disk.old }
-    ensures body { IsTrue D.tells → IfOk result (λ body. body ≡ body_found (block_at (D.content disk.old) at)) }
+    ensures body { IsTrue D.tells
+        → IfOk result (λ body. body ≡ body_found (block_at (D.content disk.old) at)) }
     ensures size { D.size disk.new ≡ D.size disk.old }
     ensures leads { D.leads_to disk.old disk.new }
-    ensures read { IsTrue D.tells → IsOnlyRead D.content D.loose D.moment D.images_since disk.old disk.new }
-    ensures counted { OnErr result (Rose (D.faults disk.old) (D.faults disk.new)) }
+    ensures read { IsTrue D.tells
+        → IsOnlyRead D.content D.loose D.moment D.images_since disk.old disk.new }
+    ensures counted { OnErr result (FaultCountRose (D.faults disk.old) (D.faults disk.new)) }
     ensures never_falls { D.faults disk.old ≤ D.faults disk.new }
 {
     disk.read(at, block)?;

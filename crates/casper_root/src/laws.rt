@@ -1,5 +1,6 @@
 ghost use Rattle.casper_root.specs.FormatLaws.{HeadersAreRead, BodiesAreRead, GatesAreRead};
 ghost use Rattle.casper_root.specs.OpeningLaws.{OpenedByFixedBlocks, OpenedFits, OpenedStandsInItsSlot, OpenedAsWritten, OpenedBesideASpareBody, OpenSpareIsBehind, OpenedBesideASpareBehind, OpenedBesideAnOlderSpare, OpenedAtASpareGate, OpenedOnceOpen};
+ghost use Rattle.casper_root.specs.Parts.{OpenedInTurn};
 ghost use Rattle.casper_root.specs.WritingLaws.{LooseInFrames, SpareGateClosed, SpareBodyWritten, StillDecidedByGate, OpenedByGate, SpareGateOpened};
 
 /// What is written is read, as the contract of a call that does nothing.
@@ -22,6 +23,11 @@ pub fn opening_laws()
     ensures older_spare { OpenedBesideAnOlderSpare }
     ensures spare_gate { OpenedAtASpareGate }
     ensures once_open { OpenedOnceOpen }
+{}
+
+/// What blocks open to is their header and then their root, as the contract of a call that does nothing.
+pub fn part_laws()
+    ensures in_turn { OpenedInTurn }
 {}
 
 /// What the blocks open to after each write of a new root, and the images meanwhile, as the contract of a call that does nothing.

@@ -2,6 +2,7 @@
 #![tactic(auto)]
 
 mod body;
+mod current_root;
 mod fault;
 mod found;
 mod header;
@@ -17,11 +18,12 @@ mod tests;
 mod writing;
 
 pub use body::Body;
+pub use current_root::CurrentRoot;
 pub use fault::OpenFault;
 pub use header::Header;
-pub use laws::{format_laws, opening_laws, writing_laws};
+pub use laws::{format_laws, opening_laws, part_laws, writing_laws};
 pub use maps::Maps;
-pub use opening::open_roots;
+pub use opening::{open_header, open_pair, open_roots};
 pub use pair::{Pair, read_pair};
 pub use roots::Roots;
 pub use slot::{OPEN, Slot, pick};

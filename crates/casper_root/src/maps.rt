@@ -53,7 +53,7 @@ impl Maps {
         &self.places[..self.count]
     }
 
-    /// The list, with zeros behind it.
+    /// The list, with zeros after it.
     pub(crate) fn places(&self) -> [u32; 16]
         ensures places { result ≡ padded 16 0 self.now }
         ensures few { length self.now ≤ 16 }

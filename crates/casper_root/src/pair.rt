@@ -1,5 +1,5 @@
 ghost use Rattle.std.specs.Prelude.{◌≡◌, ◌≤◌, IsTrue, IfOk, OnErr};
-ghost use Rattle.casper_words.specs.Count.{Rose};
+ghost use Rattle.casper_words.specs.Count.{FaultCountRose};
 ghost use Rattle.casper_root.specs.Opening.{pair_of, roots_found};
 ghost use Rattle.casper_root.specs.Reading.{IsOnlyRead};
 
@@ -23,11 +23,13 @@ pub struct Pair {
 /// Reads the gates and the sequence numbers of a store. It changes nothing of the disk; the block is used to read.
 pub fn read_pair<D: Disk>(disk: &mut D, block: &mut Block) -> Result<Pair, DiskFault>
     requires { 5 ≤ D.size disk.old }
-    ensures pair { IsTrue D.tells → IfOk result (λ pair. pair ≡ pair_of (roots_found (D.content disk.old))) }
+    ensures pair { IsTrue D.tells
+        → IfOk result (λ pair. pair ≡ pair_of (roots_found (D.content disk.old))) }
     ensures size { D.size disk.new ≡ D.size disk.old }
     ensures leads { D.leads_to disk.old disk.new }
-    ensures read { IsTrue D.tells → IsOnlyRead D.content D.loose D.moment D.images_since disk.old disk.new }
-    ensures counted { OnErr result (Rose (D.faults disk.old) (D.faults disk.new)) }
+    ensures read { IsTrue D.tells
+        → IsOnlyRead D.content D.loose D.moment D.images_since disk.old disk.new }
+    ensures counted { OnErr result (FaultCountRose (D.faults disk.old) (D.faults disk.new)) }
     ensures never_falls { D.faults disk.old ≤ D.faults disk.new }
 {
     let found = read_found(disk, block)?;

@@ -1,5 +1,5 @@
 ghost use Rattle.std.specs.Prelude.{◌≡◌, ◌≤◌, ℕ, Bool, false, List, [], ⊤, OnErr};
-ghost use Rattle.casper_words.specs.Count.{Rose};
+ghost use Rattle.casper_words.specs.Count.{FaultCountRose};
 ghost use Rattle.casper_disk.specs.Disk.{none_loose, untold};
 
 use casper_disk::{Disk, DiskFault};
@@ -33,7 +33,7 @@ impl Noted {
     }
 
     fn note(&mut self, call: Call) -> Result<(), DiskFault>
-        ensures counted { OnErr result (Rose self.old.faults self.new.faults) }
+        ensures counted { OnErr result (FaultCountRose self.old.faults self.new.faults) }
         ensures never_falls { self.old.faults ≤ self.new.faults }
     {
         if self.count >= 16 {

@@ -1,4 +1,4 @@
-ghost use Rattle.std.specs.Prelude.{◌+◌};
+ghost use Rattle.std.specs.Prelude.{◌≡◌, ◌+◌};
 
 use crate::tests::noted::{Call, Noted};
 use crate::{Pieces, Standing, put_frames, put_root, settle};
@@ -24,7 +24,7 @@ impl Pieces for Frames {
 
     ghost place = { λ _ piece. 5 + piece };
 
-    ghost bytes = { λ frames _. frames.block };
+    ghost is_piece = { λ frames _ bytes. bytes ≡ frames.block };
 
     fn count(&self) -> u32 {
         4
@@ -118,7 +118,7 @@ fn leaves_out_the_closing_of_a_gate_that_is_closed(rt: HostRuntime) -> Result<()
 }
 
 /// After a fault no later call is made, and the answer is by the call that failed. The gate is known to be closed once the sync
-/// behind its closing answered Ok, until it is handed to its opening.
+/// after its closing answered Ok, until it is handed to its opening.
 #[test]
 fn stops_at_the_call_that_fails(rt: HostRuntime) -> Result<(), Fail> {
     let table = [

@@ -35,7 +35,7 @@ loop-piece-preserved g c =
     λ some into. ap some c.place.ensures ∙ into piece within in
     let fits : c.place.result < g.D.Disk.size disk = omega (arith, c.requires piece within, c.place.ensures, held.size) in
     record {
-      written = λ told apart. one_more (g.P.Pieces.place pieces) (g.P.Pieces.bytes pieces) (g.P.Pieces.count pieces) piece (g.D.Disk.content disk) (g.D.Disk.content after)
+      written = λ told apart. one_more (g.P.Pieces.place pieces) (g.P.Pieces.is_piece pieces) (g.P.Pieces.count pieces) piece (g.D.Disk.content disk) (g.D.Disk.content after)
           c.place.result c.fill.new.into apart within c.place.ensures c.fill.ensures (omega (arith, fits, g.met.D.Disk.sized disk told))
           (c.in_ok-put_frame.ensures.written told) (c.put_frame.ensures.others told) (held.written told apart);
       others = λ told some into. agrees_on some (g.D.Disk.content start) (g.D.Disk.content disk) (g.D.Disk.content after) (held.others told some into)

@@ -9,7 +9,7 @@ use Rattle.casper_commit.proofs.pieces.put_frames.Given as goal
 abbrev pub invariant-loop-piece : goal.invariant-loop-piece
 invariant-loop-piece g l = record {
   written : IsTrue g.D.Disk.tells → AreApart g.P.Pieces.count g.P.Pieces.place l.pieces
-      → HoldPieces g.P.Pieces.place g.P.Pieces.bytes l.pieces l.piece (g.D.Disk.content l.disk);
+      → HoldPieces g.P.Pieces.place g.P.Pieces.is_piece l.pieces l.piece (g.D.Disk.content l.disk);
   others : IsTrue g.D.Disk.tells → (some : ℕ → Bool) → GoInto g.P.Pieces.count g.P.Pieces.place some l.pieces
       → AgreesBut some (g.D.Disk.content l.initial.disk) (g.D.Disk.content l.disk);
   stands : IsTrue g.D.Disk.tells → (closed : Bool) (root : Root) (free : ℕ → Bool) (base : List (List ℕ))

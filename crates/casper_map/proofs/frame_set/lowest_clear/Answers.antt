@@ -1,4 +1,4 @@
-use Rattle.std.proofs.Common.{◌≡◌, ℕ, sym, ◌∙◌, subst}
+use Rattle.std.proofs.Common.{ℕ, sym, subst}
 use Rattle.casper_map.specs.Bits.{IsLowestClear}
 use Rattle.casper_map.proofs.BitLemmas.{clear_found, clear_nowhere, shifted_one, filled_fits}
 use Rattle.casper_map.proofs.frame_set.lowest_clear.Goals as goal

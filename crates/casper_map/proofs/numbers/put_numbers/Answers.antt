@@ -1,4 +1,4 @@
-use Rattle.std.proofs.Common.{◌≡◌, ℕ, ◌*◌, ◌<◌, length, take, drop, ap, arith, length-append, length-drop}
+use Rattle.std.proofs.Common.{◌≡◌, ◌*◌, ◌<◌, length, take, drop, ap, arith, length-append, length-drop}
 use Rattle.casper_map.proofs.ByteLemmas.{bytes_of, one_number_more, all_numbers, length_front}
 use Rattle.casper_map.proofs.numbers.put_numbers.Goals as goal
 

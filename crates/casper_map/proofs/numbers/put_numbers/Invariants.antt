@@ -1,4 +1,4 @@
-use Rattle.std.proofs.Common.{◌≡◌, ℕ, ◌*◌, ◌<◌, ◌++◌, length, take, drop}
+use Rattle.std.proofs.Common.{◌≡◌, ◌*◌, ◌<◌, ◌++◌, length, take, drop}
 use Rattle.casper_map.proofs.ByteLemmas.{bytes_of}
 use Rattle.casper_map.proofs.numbers.put_numbers.Given as goal
 

@@ -1,4 +1,4 @@
-use Rattle.std.proofs.Common.{◌≡◌, ◌≤◌, ◌+◌, ◌∷◌, ◌++◌, [], ℕ, List, refl, sym, ◌∙◌, ap, subst, arith, vec_len}
+use Rattle.std.proofs.Common.{◌≡◌, ◌+◌, ℕ, List, refl, sym, ◌∙◌, ap, subst, arith, vec_len}
 use Rattle.std.proofs.Common.{Vec, Global}
 use Rattle.casper_map.proofs.ListLemmas.{FoundBlocks, found_new, found_old}
 use Rattle.casper_map.proofs.planning.blocks_under.Goals as goal

@@ -1,4 +1,4 @@
-use Rattle.std.proofs.Common.{◌≡◌, ℕ, ◌+◌, List, length, take}
+use Rattle.std.proofs.Common.{ℕ, ◌+◌, List, take}
 use Rattle.std.specs.Prelude.{Option}
 use Rattle.casper_map.specs.Planned.{Show, AreWithin, with_moves}
 use Rattle.casper_map.proofs.planning.put_moves.Given as goal

@@ -1,8 +1,7 @@
 use Rattle.std.proofs.Common.{◌≡◌, ℕ, ◌*◌, ◌/◌, ◌%◌, ◌^◌, ◌<◌, Bool, true, List, length, get_or, set, ◌∙◌, ap, arith}
-use Rattle.std.specs.Prelude.{bit_or, bit_and}
-use Rattle.std.specs.Int.{w64, bit_not}
+use Rattle.std.specs.Prelude.{bit_or}
 use Rattle.std.proofs.lemmas.List.{get_or_read}
-use Rattle.casper_map.specs.Bits.{members_of}
+use Rattle.casper_map.specs.Bits.{flags_of_bits}
 use Rattle.casper_map.proofs.BitLemmas.{members_long, members_with}
 use Rattle.casper_map.proofs.frame_set.FrameSet.insert.Goals as goal
 
@@ -22,5 +21,5 @@ returns c =
     let below : frame < size = omega (arith, members_long words size, ap length c.self.view_is) in
     let within : frame / 64 < length words = omega (arith, c.self.invariant.0) in
     let word : c.index.result.now ≡ get_or words (frame / 64) 0 = get_or_read words (frame / 64) c.index.result.now within c.index.ensures 0 in
-    ap (λ (w : ℕ). members_of (set words (frame / 64) (bit_or w (1 * 2 ^ (frame % 64) % 2 ^ 64))) size) word
+    ap (λ (w : ℕ). flags_of_bits (set words (frame / 64) (bit_or w (1 * 2 ^ (frame % 64) % 2 ^ 64))) size) word
     ∙ members_with words size frame below within ∙ ap (λ (list : List Bool). set list frame true) c.self.view_is

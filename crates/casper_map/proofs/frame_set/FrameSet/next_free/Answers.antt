@@ -1,9 +1,8 @@
-use Rattle.std.proofs.Common.{◌≡◌, ◌≤◌, ◌<◌, ◌-◌, ◌+◌, ◌%◌, ◌/◌, ℕ, true, length, get_or, arith, ⊎_elim, subst, ap, sym, ◌∙◌}
+use Rattle.std.proofs.Common.{◌≡◌, ◌<◌, ◌-◌, ◌+◌, ◌%◌, ◌/◌, ℕ, length, get_or, arith, ⊎_elim, subst, ap}
 use Rattle.std.proofs.lemmas.Bool.{cases_lt}
 use Rattle.std.proofs.lemmas.List.{get_or_read}
-use Rattle.std.specs.Int.{bit_at}
-use Rattle.casper_map.specs.Bits.{has_bit, IsLowestClear}
-use Rattle.casper_map.proofs.BitLemmas.{members_long, word_clear, word_full, next_found, none_found}
+use Rattle.casper_map.specs.Bits.{IsLowestClear}
+use Rattle.casper_map.proofs.BitLemmas.{members_long, word_clear, next_found, none_found}
 use Rattle.casper_map.proofs.frame_set.FrameSet.next_free.Goals as goal
 
 pub loop-at-init : goal.loop-at-init

@@ -1,5 +1,4 @@
-use Rattle.std.proofs.Common.{◌≡◌, ◌+◌, ◌<◌, ℕ, List, length, sym, ◌∙◌, ap, subst, arith}
-use Rattle.std.specs.Prelude.{All}
+use Rattle.std.proofs.Common.{◌≡◌, ℕ, List, length, sym, ◌∙◌, ap, subst, arith}
 use Rattle.casper_map.specs.Mapped.{Mapped}
 use Rattle.casper_map.specs.Planned.{Planned, AreWithin, AreNew, with_moves}
 use Rattle.casper_map.proofs.PlanLemmas.{moves_long}

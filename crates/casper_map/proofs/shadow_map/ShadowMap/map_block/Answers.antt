@@ -1,6 +1,5 @@
-use Rattle.std.proofs.Common.{◌≡◌, ◌+◌, ◌*◌, ℕ, List, length, sym, ◌∙◌, ap, subst, arith}
+use Rattle.std.proofs.Common.{◌≡◌, ◌+◌, ◌*◌, ℕ, List, length, sym, ◌∙◌, ap, subst}
 use Rattle.std.proofs.lemmas.List.{length-replicate}
-use Rattle.casper_map.specs.Mapped.{Mapped}
 use Rattle.casper_map.specs.Numbers.{block_of_numbers}
 use Rattle.casper_map.specs.Planned.{Planned, Show, AreWithin, with_moves}
 use Rattle.casper_map.proofs.PlannedLemmas.{pages_within, block_shown}

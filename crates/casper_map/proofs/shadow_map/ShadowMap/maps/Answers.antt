@@ -1,6 +1,5 @@
-use Rattle.std.proofs.Common.{◌≡◌, ◌+◌, ◌*◌, ℕ, List, length, sym, ◌∙◌, ap, subst, arith}
+use Rattle.std.proofs.Common.{◌≡◌, ℕ, List, length, sym, ◌∙◌, ap, subst, arith}
 use Rattle.std.proofs.lemmas.List.{length-replicate, length-take}
-use Rattle.casper_map.specs.Mapped.{Mapped}
 use Rattle.casper_map.specs.Planned.{Planned, Show, AreWithin, with_moves}
 use Rattle.casper_map.proofs.PlannedLemmas.{maps_within, maps_shown}
 use Rattle.casper_map.proofs.shadow_map.ShadowMap.maps.Goals as goal

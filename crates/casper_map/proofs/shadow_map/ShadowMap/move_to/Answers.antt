@@ -1,9 +1,9 @@
-use Rattle.std.proofs.Common.{◌≡◌, ◌<◌, ◌+◌, ℕ, List, Bool, false, true, sym, ◌∙◌, ap, subst, set, arith, length}
-use Rattle.std.specs.Prelude.{Option, Some, None, nat_le}
+use Rattle.std.proofs.Common.{◌≡◌, ◌<◌, List, Bool, false, true, sym, ◌∙◌, ap, subst, set, arith, length}
+use Rattle.std.specs.Prelude.{Some, None, nat_le}
 use Rattle.std.proofs.lemmas.Bool.{or_parts}
 use Rattle.std.proofs.lemmas.List.{get_or_read}
 use Rattle.casper_map.specs.Bits.{is_member}
-use Rattle.casper_map.specs.Faulty.{frame_at, is_faulty_beside}
+use Rattle.casper_map.specs.Faulty.{frame_at}
 use Rattle.casper_map.specs.Levels.{names}
 use Rattle.casper_map.specs.Mapped.{Mapped, IsShadow}
 use Rattle.casper_map.specs.declared.shadow_map.ShadowMap.TheInside.{Inside}

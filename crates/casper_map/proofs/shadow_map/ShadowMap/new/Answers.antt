@@ -1,5 +1,4 @@
-use Rattle.std.proofs.Common.{rules, ◌≡◌, ◌+◌, ℕ}
-use Rattle.std.specs.Prelude.{Option}
+use Rattle.std.proofs.Common.{rules, ◌≡◌, ◌+◌}
 use Rattle.casper_map.proofs.CountLemmas.{nothings, shadow_new}
 use Rattle.casper_map.proofs.shadow_map.ShadowMap.new.Goals as goal
 

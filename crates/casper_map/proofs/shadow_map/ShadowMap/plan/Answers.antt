@@ -1,4 +1,4 @@
-use Rattle.std.proofs.Common.{◌≡◌, ◌+◌, ◌≤◌, ◌^◌, ◌<◌, ℕ, length, arith, ap}
+use Rattle.std.proofs.Common.{length, arith, ap}
 use Rattle.casper_map.specs.Mapped.{page_count}
 use Rattle.casper_map.proofs.PlanLemmas.{rising_few}
 use Rattle.casper_map.proofs.shadow_map.ShadowMap.plan.Goals as goal

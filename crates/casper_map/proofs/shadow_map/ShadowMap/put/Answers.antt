@@ -1,4 +1,4 @@
-use Rattle.std.proofs.Common.{◌≡◌, ◌<◌, ◌+◌, ℕ, List, Bool, false, sym, ◌∙◌, ap, subst, set, arith, length}
+use Rattle.std.proofs.Common.{◌≡◌, ◌<◌, ◌+◌, List, Bool, false, sym, ◌∙◌, ap, subst, set, arith, length}
 use Rattle.std.specs.Prelude.{Some, None}
 use Rattle.casper_map.specs.Bits.{is_member}
 use Rattle.casper_map.specs.Faulty.{frame_at}

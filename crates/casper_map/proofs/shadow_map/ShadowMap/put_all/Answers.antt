@@ -1,9 +1,9 @@
-use Rattle.std.proofs.Common.{◌≡◌, ◌+◌, ◌*◌, ◌<◌, ℕ, List, Bool, length, get_or, set, refl, sym, ◌∙◌, ap, subst, arith}
+use Rattle.std.proofs.Common.{◌≡◌, ◌+◌, ◌*◌, ◌<◌, ℕ, length, get_or, refl, sym, ◌∙◌, ap, subst, arith}
 use Rattle.std.proofs.lemmas.List.{length-set}
-use Rattle.std.specs.Prelude.{Option, Some, Result, MatchResult}
+use Rattle.std.specs.Prelude.{Some, Result, MatchResult}
 use Rattle.casper_root.specs.declared.fault.OpenFault.{OpenFault}
 use Rattle.casper_root.specs.declared.fault.OpenFault.TheVariants as fault
-use Rattle.casper_map.specs.Faulty.{frame_at, is_faulty_beside, first_faulty}
+use Rattle.casper_map.specs.Faulty.{is_faulty_beside, first_faulty}
 use Rattle.casper_map.specs.Mapped.{Mapped}
 use Rattle.casper_map.specs.Numbers.{frame_in, number_of}
 use Rattle.casper_map.specs.Reading.{IsRead, HasNoneFrom, HasSizesOf, IsFirstBad}

@@ -1,4 +1,4 @@
-use Rattle.std.proofs.Common.{◌≡◌, ◌+◌, List, ℕ}
+use Rattle.std.proofs.Common.{◌+◌, List, ℕ}
 use Rattle.std.specs.Prelude.{Option}
 use Rattle.casper_map.specs.Reading.{IsRead, HasNoneFrom, HasSizesOf, StandAt}
 use Rattle.casper_map.proofs.shadow_map.ShadowMap.put_all.Given as goal

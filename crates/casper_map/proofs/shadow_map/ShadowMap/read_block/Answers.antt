@@ -1,11 +1,9 @@
-use Rattle.std.proofs.Common.{◌≡◌, ◌+◌, ◌-◌, ◌*◌, ◌/◌, ◌<◌, ◌≤◌, ℕ, List, ◌++◌, length, take, get_or, refl, sym, ◌∙◌, ap, subst, inl, inr, arith}
-use Rattle.std.specs.Prelude.{Option, Some, None, min, Result, Ok, Err, MatchResult}
+use Rattle.std.proofs.Common.{◌≡◌, ◌+◌, ◌-◌, ◌*◌, ◌/◌, ◌<◌, ℕ, ◌++◌, length, take, refl, sym, ◌∙◌, ap, subst, arith}
+use Rattle.std.specs.Prelude.{Some, None, min, MatchResult}
 use Rattle.std.proofs.lemmas.List.{get_or_read, length-take}
-use Rattle.casper_root.specs.declared.fault.OpenFault.{OpenFault}
-use Rattle.casper_root.specs.declared.fault.OpenFault.TheVariants as fault
 use Rattle.casper_map.specs.Faulty.{frame_at}
 use Rattle.casper_map.specs.Levels.{level, one_reader, block_in}
-use Rattle.casper_map.specs.Mapped.{Mapped, AreBelow}
+use Rattle.casper_map.specs.Mapped.{Mapped}
 use Rattle.casper_map.specs.Numbers.{numbers_of_block}
 use Rattle.casper_map.specs.Reading.{IsRead, StandAt, IsFirstBad, end_of_block}
 use Rattle.casper_map.proofs.LevelLemmas.{map_at, block_stands, block_without, block_answer}

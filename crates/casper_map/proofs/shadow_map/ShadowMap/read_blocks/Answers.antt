@@ -1,5 +1,5 @@
-use Rattle.std.proofs.Common.{◌≡◌, ◌+◌, ◌-◌, ◌*◌, ◌/◌, ◌<◌, ◌≤◌, ℕ, List, length, refl, sym, ◌∙◌, ap, subst, ⊎_elim, arith}
-use Rattle.std.specs.Prelude.{Option, None, Result, Ok, Err, min}
+use Rattle.std.proofs.Common.{◌≡◌, ◌+◌, ◌*◌, ◌/◌, ◌≤◌, ℕ, List, length, refl, sym, ◌∙◌, ap, subst, ⊎_elim, arith}
+use Rattle.std.specs.Prelude.{Option, None, Ok, Err, min}
 use Rattle.std.proofs.lemmas.List.{length-replicate}
 use Rattle.casper_root.specs.declared.fault.OpenFault.{OpenFault}
 use Rattle.casper_root.specs.declared.fault.OpenFault.TheVariants as fault
@@ -102,6 +102,7 @@ loop-number-init g c =
       pages = omega (arith, first, places);
       frames = sizes.frames ∙ ap (λ (held : Mapped). held.frames) made;
       only = λ told. only_same g.D.Disk.content g.D.Disk.loose g.D.Disk.moment g.D.Disk.images_since c.args.disk.now;
+      leads = g.met.D.Disk.leads_to_itself c.args.disk.now;
       size = refl;
       never_falls = omega arith;
     }
@@ -139,6 +140,25 @@ loop-number-preserved g c =
       pages = omega (arith, sizes.first_page, sizes.places, pages);
       frames = sizes.frames ∙ held.frames;
       only = λ told. only_then g.D.Disk.content g.D.Disk.loose g.D.Disk.moment g.D.Disk.images_since c.args.disk.now c.loop-number.disk c.read_block.new.disk (held.only told) (done.read told);
+      leads = g.met.D.Disk.leads_on c.args.disk.now c.loop-number.disk c.read_block.new.disk held.leads done.leads;
       size = done.size ∙ held.size;
       never_falls = omega (arith, held.never_falls, done.never_falls);
+    }
+
+pub returns-clause-whole : goal.returns-clause-whole
+returns-clause-whole g c =
+    let roots = c.args.roots.now in
+    let map = c.loop-number.map in
+    let held = c.loop-number.invariant in
+    let count : length roots.body.maps ≡ (roots.header.pages + 1023) / 1024 = c.requires.maps in
+    record {
+      first_page = held.blocks;
+      pages = held.pages;
+      frames = held.frames;
+      blocks = record {
+        blocks = omega (arith, held.pages, c.requires.sizes.some_pages);
+        mapped = omega (arith, held.pages, held.blocks, count, c.requires.sizes.some_pages);
+      };
+      apart = c.used.ensures.apart;
+      below = c.used.ensures.in_range;
     }

@@ -14,6 +14,7 @@ invariant-loop-number g l = record {
   pages : page_count l.map ≡ l.roots.header.pages;
   frames : l.map.frames ≡ l.roots.header.frames;
   only : IsTrue g.D.Disk.tells → IsOnlyRead g.D.Disk.content g.D.Disk.loose g.D.Disk.moment g.D.Disk.images_since l.initial.disk l.disk;
+  leads : g.D.Disk.leads_to l.initial.disk l.disk;
   size : g.D.Disk.size l.disk ≡ g.D.Disk.size l.initial.disk;
   never_falls : g.D.Disk.faults l.initial.disk ≤ g.D.Disk.faults l.disk;
 }

@@ -1,4 +1,4 @@
-use Rattle.std.proofs.Common.{◌≡◌, ◌+◌, ℕ, length, subst, arith}
+use Rattle.std.proofs.Common.{◌≡◌, ◌+◌, length, subst, arith}
 use Rattle.casper_map.specs.Mapped.{Mapped, free_frames}
 use Rattle.casper_map.proofs.CountLemmas.{all_counted}
 use Rattle.casper_map.proofs.shadow_map.ShadowMap.used.Goals as goal
