@@ -1,0 +1,11 @@
+pub mod OpeningLemmas
+pub mod FormattingLemmas
+pub mod PieceLemmas
+pub mod WritingLemmas
+pub mod CommitLemmas
+pub mod DoubtLemmas
+pub mod SettleLemmas
+pub mod ReadLemmas
+pub mod VaultLemmas
+pub mod PlanningLemmas
+pub mod FullLemmas

@@ -1,0 +1,22 @@
+use Rattle.std.specs.Prelude.{◌≡◌, ◌≤◌, ℕ, List, Result, Ok, Err}
+use Rattle.casper_disk.specs.Vault.{Saved}
+use Rattle.casper_root.specs.declared.fault.OpenFault.{OpenFault}
+use Rattle.casper_stable.specs.Opens.{Store, opens}
+use Rattle.casper_stable.specs.Kept.{Kept}
+
+-- the pages of a store with their version
+abbrev pub saved_of : Result Store OpenFault → Result Saved OpenFault
+saved_of (Err refusal) = Err refusal
+saved_of (Ok store) = Ok store.saved
+
+-- one of these images of a disk opens to pages with this version
+pub record Leaves (images : List (List ℕ) → Type 0) (saved : Saved) : Type 0 where
+  pub blocks : List (List ℕ)
+  pub left : images blocks
+  pub opens : saved_of (opens blocks) ≡ Ok saved
+
+-- what each call of a store keeps: its disk leads to the later one, its sizes stay, and its version never falls
+pub record KeptLeadsTo {D : Type 0} (leads : D → D → Type 0) (before after : Kept D) : Type 0 where
+  pub disk : leads before.disk after.disk
+  pub header : after.header ≡ before.header
+  pub version : before.body.seq ≤ after.body.seq

@@ -1,0 +1,12 @@
+pub mod Opens
+pub mod Kept
+pub mod Leaves
+pub mod Sound
+pub mod Opened
+pub mod Formatted
+pub mod Writing
+pub mod Doubts
+pub mod OpensLemmas
+pub mod LeavesLemmas
+pub mod SoundLemmas
+pub mod VaultLaws
