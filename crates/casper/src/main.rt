@@ -4,12 +4,12 @@
 ghost use Rattle.std.specs.Prelude.{◌≡◌, ◌⊎◌, List, codes};
 ghost use Rattle.std.specs.Io.KnownBytes.{append_known};
 ghost use Rattle.std.specs.Process.{exit_status};
-ghost use Rattle.casper_words.specs.Count.{Rose};
+ghost use Rattle.casper_words.specs.Count.{FaultCountRose};
 ghost use Rattle.casper_space.specs.declared.answer.Answer.{Answer};
 ghost use Rattle.casper_trail.specs.declared.item.Item.{Item};
-ghost use Rattle.casper_app.specs.declared.cause.Cause.{Cause};
+ghost use Rattle.casper_app.specs.declared.end.End.{End};
 ghost use Rattle.casper_app.specs.Ending.{IsRun};
-ghost use Rattle.casper_app.specs.Status.{status_of};
+ghost use Rattle.casper_app.specs.Status.{status_of, status_of_end};
 
 use casper_app::{Cause, run};
 use casper_io::{Sink, Source, StdSink, StdSource, put_all};
@@ -41,9 +41,10 @@ fn run_to_end<S: Source, K: Sink>(
     source: &mut S,
     sink: &mut K,
 ) -> ExitCode
-    ensures { (answers : List Answer) × (items : List Item) × (last : Cause)
-        × IsRun words.now (S.left source.old) (S.left source.new) (K.taken sink.old) (K.taken sink.new) answers items last
-        × (exit_status result ≡ status_of last) }
+    ensures { (answers : List Answer) × (items : List Item) × (last : End)
+        × IsRun words.now (S.left source.old) (S.left source.new) (K.taken sink.old)
+        (K.taken sink.new) answers items last
+        × (exit_status result ≡ status_of_end last) }
 {
     let ended = run(alloc, words, source, sink);
     ExitCode::from(ended.status)
@@ -51,8 +52,10 @@ fn run_to_end<S: Source, K: Sink>(
 
 /// Ends a call that found no memory to begin with. It takes none.
 fn end_without_memory<K: Sink>(sink: &mut K) -> ExitCode
-    ensures { ((exit_status result ≡ status_of Cause.Memory) × (K.taken sink.new ≡ append_known (K.taken sink.old) (codes "no memory\n")))
-        ⊎ ((exit_status result ≡ status_of Cause.Write) × Rose (K.faults sink.old) (K.faults sink.new)) }
+    ensures { ((exit_status result ≡ status_of Cause.Memory)
+        × (K.taken sink.new ≡ append_known (K.taken sink.old) (codes "no memory\n")))
+        ⊎ ((exit_status result ≡ status_of Cause.Write)
+        × FaultCountRose (K.faults sink.old) (K.faults sink.new)) }
 {
     match put_all(sink, b"no memory\n") {
         Ok(()) => ExitCode::from(Cause::Memory.status()),

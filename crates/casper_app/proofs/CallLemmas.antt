@@ -5,18 +5,18 @@ use Rattle.casper_words.specs.declared.call.Call.{Call}
 use Rattle.casper_space.specs.declared.answer.Answer.{Answer}
 use Rattle.casper_model.specs.declared.event.Event.{Event}
 use Rattle.casper_model.specs.declared.event.Event.TheVariants as event
-use Rattle.casper_model.specs.Outside.{NothingFailed}
 use Rattle.casper_model.specs.Shared.{fallen_at, is_live}
-use Rattle.casper_model.specs.State.{State, zero_vault}
+use Rattle.casper_model.specs.State.{State, start}
 use Rattle.casper_model.specs.Step.{step}
 use Rattle.casper_model.specs.Run.{answers_of}
 use Rattle.casper_model.specs.Turn.{Turn}
-use Rattle.casper_laws.specs.OwnLists.{own_list_of, completed_calls, drops_pending, is_rolled_back, all_completed, never_drops}
+use Rattle.casper_laws.specs.OwnLists.{completed_calls, drops_pending, is_rolled_back, all_completed, never_drops}
 use Rattle.casper_laws.proofs.CallsInOrder.{every_run_in_order}
 use Rattle.casper_app.specs.Lines.{events_in}
-use Rattle.casper_app.specs.Session.{most_entries, most_held, session_after}
-use Rattle.casper_app.specs.Machine.{unfailing, calls_answered, may_drop, none_dropped, SessionsKeepCalls}
-use Rattle.casper_app.proofs.SessionLemmas.{sessions_run_the_machine, lines_name_clients}
+use Rattle.casper_app.specs.Machine.{calls_answered, may_drop, none_dropped, SessionsKeepCalls}
+use Rattle.casper_core.specs.Acting.{outside_of}
+use Rattle.casper_core.specs.Stepping.{happenings_of}
+use Rattle.casper_app.proofs.SessionLemmas.{lines_name_clients}
 
 -- what two tests refuse, three refuse
 refused_by_more : (first second third : Bool) → not (first && third) ≡ true → not (first && (second && third)) ≡ true
@@ -48,28 +48,36 @@ none_by state (event.Depart who) given client none = refused_by_more (who == cli
 none_by state (event.Vanish who) given client none = refused_by_both (who == client) (is_live state.shared who) (or_parts (who == client) _ none)
 none_by state (event.Lose who) given client none = refl
 
-never_by : (state : State) (events : List Event) (client : ℕ) → none_dropped events (answers_of state (unfailing events)) client ≡ true
-    → never_drops state (unfailing events) client ≡ true
-never_by state [] client none = refl
-never_by state (asked ∷ events) client none =
-    let turn : Turn = step state asked NothingFailed in
-    let parts = and_parts (not (may_drop asked turn.answer client)) (none_dropped events (answers_of turn.state (unfailing events)) client) none in
-    and_from (not (drops_pending state asked turn.answer client)) (never_drops turn.state (unfailing events) client)
-    (none_by state asked turn.answer client parts.0) (never_by turn.state events client parts.1)
+-- what a list of answers begins with, and what follows
+first_given : (one other : Answer) (given others : List Answer) → one ∷ given ≡ other ∷ others → (one ≡ other) × (given ≡ others)
+first_given one other given others same = (cc, cc)
 
-completed_by : (state : State) (events : List Event) (client : ℕ)
-    → all_completed state (unfailing events) client ≡ calls_answered events (answers_of state (unfailing events)) client
-completed_by state [] client = refl
-completed_by state (asked ∷ events) client =
-    let turn : Turn = step state asked NothingFailed in
-    ap (λ (calls : List Call). completed_calls asked turn.answer client ++ calls) (completed_by turn.state events client)
+never_by : (state : State) (events : List Event) (given : List Answer) (client : ℕ) → given ≡ answers_of state (happenings_of events given)
+    → none_dropped events given client ≡ true → never_drops state (happenings_of events given) client ≡ true
+never_by state events [] client is none = refl
+never_by state [] (one ∷ given) client is none = refl
+never_by state (asked ∷ events) (one ∷ given) client is none =
+    let turn : Turn = step state asked (outside_of one) in
+    let heads = first_given one turn.answer given (answers_of turn.state (happenings_of events given)) is in
+    let parts = and_parts (not (may_drop asked one client)) (none_dropped events given client) none in
+    and_from (not (drops_pending state asked turn.answer client)) (never_drops turn.state (happenings_of events given) client)
+    (none_by state asked turn.answer client (subst (λ (a : Answer). not (may_drop asked a client) ≡ true) heads.0 parts.0))
+    (never_by turn.state events given client heads.1 parts.1)
+
+completed_by : (state : State) (events : List Event) (given : List Answer) (client : ℕ) → given ≡ answers_of state (happenings_of events given)
+    → all_completed state (happenings_of events given) client ≡ calls_answered events given client
+completed_by state [] [] client is = refl
+completed_by state (asked ∷ events) [] client is = refl
+completed_by state [] (one ∷ given) client is = refl
+completed_by state (asked ∷ events) (one ∷ given) client is =
+    let turn : Turn = step state asked (outside_of one) in
+    let heads = first_given one turn.answer given (answers_of turn.state (happenings_of events given)) is in
+    ap (λ (a : Answer). completed_calls asked a client ++ all_completed turn.state (happenings_of events given) client) (sym heads.0)
+    ∙ ap (λ (calls : List Call). completed_calls asked one client ++ calls) (completed_by turn.state events given client heads.1)
 
 pub sessions_keep_calls : SessionsKeepCalls
-sessions_keep_calls pages lines who none =
-    let events = events_in lines in
-    let run = sessions_run_the_machine pages events in
-    let never = never_by _ events who (subst (λ (answers : List Answer). none_dropped events answers who ≡ true) run.answers none) in
-    ap (λ (state : State). own_list_of state who) run.state
-    ∙ every_run_in_order (zero_vault pages) pages most_entries most_held (unfailing events) (lines_name_clients lines) who never
-    ∙ completed_by _ events who
-    ∙ ap (λ (answers : List Answer). calls_answered events answers who) (sym run.answers)
+sessions_keep_calls vault pages limit capacity lines given who session none =
+    let begun : State = start vault pages limit capacity in
+    every_run_in_order vault pages limit capacity (happenings_of (events_in lines) given) (lines_name_clients lines given) who
+    (never_by begun (events_in lines) given who session.answers none)
+    ∙ completed_by begun (events_in lines) given who session.answers

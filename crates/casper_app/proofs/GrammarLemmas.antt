@@ -10,7 +10,7 @@ use Rattle.casper_text.specs.Number.{number_of}
 use Rattle.casper_text.proofs.NumberLemmas.{number_read_back, number_text}
 use Rattle.casper_model.specs.declared.event.Event.{Event}
 use Rattle.casper_model.specs.declared.event.Event.TheVariants as event
-use Rattle.casper_app.specs.Schedule.{client_of, lone_client, place_of, want_of, each_want, are_wants, rising_wants, wants_of, join_of, read_of, write_of, acquire_of, serve_of, depart_of, event_by}
+use Rattle.casper_app.specs.Schedule.{client_of, lone_client, place_of, want_of, each_want, are_wants, rising_wants, wants_of, join_of, read_of, write_of, acquire_of, serve_of, depart_of, event_of_verb}
 use Rattle.casper_app.specs.Grammar.{want_text, words_of_event, AreAsked, IsEvent, EventsAreReadBack, EventsHaveOneText}
 use Rattle.casper_app.proofs.WantLemmas.{want_read_back, text_of_want, wants_found, wants_pass, each_more}
 
@@ -122,7 +122,7 @@ events_are_read_back event.Settle in_ranges = absurd in_ranges
 events_are_read_back (event.Vanish who) in_ranges = absurd in_ranges
 events_are_read_back (event.Lose who) in_ranges = absurd in_ranges
 
--- what stands behind a verb has one text
+-- what stands after a verb has one text
 abbrev HasText : List ℕ → List (List ℕ) → Event → Type 0
 HasText verb rest asked = IsEvent asked × (verb ∷ rest ≡ words_of_event asked)
 
@@ -202,7 +202,7 @@ acquire_text (client ∷ wanted) asked asks =
           ∙ ap (λ (ws : List (List ℕ)). codes "acquire" ∷ decimal who.0 ∷ ws) texts.1,
     )
 
--- of a verb that is one word or another, what is asked for is what stands behind the one that it is
+-- of a verb that is one word or another, what is asked for is what stands after the one that it is
 by_verb : (verb known : List ℕ) (rest : List (List ℕ)) (asked : Event) (behind other : Option Event)
     → (behind ≡ Some asked → HasText known rest asked) → (other ≡ Some asked → HasText verb rest asked)
     → cond (bytes_eq verb known) behind other ≡ Some asked → HasText verb rest asked
@@ -212,7 +212,7 @@ by_verb verb known rest asked behind other here there asks = by_test (bytes_eq v
     by_test true same gives = subst (λ (v : List ℕ). HasText v rest asked) (sym (same refl)) (here gives)
     by_test false same gives = there gives
 
-event_text : (verb : List ℕ) (rest : List (List ℕ)) (asked : Event) → event_by verb rest ≡ Some asked → HasText verb rest asked
+event_text : (verb : List ℕ) (rest : List (List ℕ)) (asked : Event) → event_of_verb verb rest ≡ Some asked → HasText verb rest asked
 event_text verb rest asked =
     by_verb verb (codes "join") rest asked (join_of rest) _ (join_text rest asked)
     (by_verb verb (codes "read") rest asked (read_of rest) _ (read_text rest asked)

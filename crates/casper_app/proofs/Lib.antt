@@ -1,9 +1,9 @@
-pub mod AtLemmas
 pub mod CallLemmas
+pub mod CarryLemmas
 pub mod GrammarLemmas
 pub mod LineLawLemmas
 pub mod ReadingLemmas
 pub mod RunLemmas
 pub mod SessionLemmas
-pub mod TextLemmas
+pub mod TakingLemmas
 pub mod WantLemmas

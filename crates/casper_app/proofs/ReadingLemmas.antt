@@ -1,87 +1,95 @@
-use Rattle.std.proofs.Common.{◌≡◌, ◌≢◌, ◌+◌, ◌≤◌, ◌<◌, arith, ℕ, List, [], ◌∷◌, ◌++◌, Option, Some, None, MatchOption, Result, Ok, Err, ap, sym, subst, ◌∙◌, refl, length, length-append, length-drop, fold, filter_map, append_assoc, inl, inr, take, drop}
+use Rattle.std.proofs.Common.{◌≡◌, ◌≢◌, ◌+◌, ◌≤◌, ◌<◌, arith, ℕ, Bool, true, false, cond, List, [], ◌∷◌, ◌++◌, Option, Some, None, Result, Ok, Err, ap, sym, subst, ◌∙◌, refl, length, length-append, length-drop, append_assoc, inl, inr, take, drop}
+use Rattle.std.specs.Prelude.{is_some, option_to_list, IsErrAnd, MatchResult, MatchBool}
 use Rattle.std.proofs.lemmas.List.{append-nil, take-append-drop}
 use Rattle.std.proofs.lemmas.Grind.{flat_map-append}
-use Rattle.std.specs.Option.{option_map_or, unwrap_or}
+use Rattle.std.proofs.lemmas.List.Elements.{filter_map-append}
 use Rattle.std.specs.Io.KnownBytes.{append_known}
 use Rattle.casper_io.proofs.Known.{append_known-nil, append_known-append}
-use Rattle.casper_io.specs.Lines.{TakesLine}
+use Rattle.casper_io.proofs.LinesRead.{reads_more}
+use Rattle.casper_io.specs.Lines.{TakesLine, TakesEnd}
+use Rattle.casper_io.specs.Reading.{most_lines}
 use Rattle.casper_io.specs.declared.lines.Next.TheVariants as next
 use Rattle.casper_io.specs.Told.{WhereTold, TakesFront}
-use Rattle.std.proofs.lemmas.List.Elements.{filter_map-append}
-use Rattle.std.proofs.lemmas.List.Sums.{fold-append}
 use Rattle.casper_space.specs.declared.answer.Answer.{Answer}
+use Rattle.casper_report.specs.Texts.{answer_line, answer_lines}
+use Rattle.casper_model.specs.declared.event.Event.{Event}
 use Rattle.casper_app.specs.declared.cause.Cause.{Cause}
 use Rattle.casper_app.specs.declared.cause.Cause.TheVariants as cause
-use Rattle.casper_model.specs.declared.event.Event.{Event}
-use Rattle.casper_app.specs.Session.{Session, at_start, after_event, session_after}
-use Rattle.casper_app.specs.Lines.{event_in, events_in, IsTaken, AreTaken}
-use Rattle.casper_app.specs.Replay.{ReadsLines, EndsFor, WritesButTheLast, WritesAnswers, most_lines}
-use Rattle.casper_app.specs.Reading.{Stands, IsReading}
-use Rattle.casper_app.specs.Taking.{after_line, answer_in, answers_in, IsCarriedOut, TakesInput, NextEnds}
-use Rattle.casper_app.specs.Texts.{answer_line, answer_lines}
-
--- one more line stands behind those that were read
-reads_more : (first : Option (List ℕ)) (lines : List (List ℕ)) (left : Option (List ℕ)) (line : List ℕ) (last : Option (List ℕ)) → ReadsLines first lines left → WhereTold left last (TakesLine line) → ReadsLines first (lines ++ line ∷ []) last
-reads_more first [] left line last same takes = (last, subst (λ (f : Option (List ℕ)). WhereTold f last (TakesLine line)) (sym same) takes, refl)
-reads_more first (one ∷ lines) left line last reads takes = (reads.0, reads.1, reads_more reads.0 lines left line last reads.2 takes)
+use Rattle.casper_app.specs.declared.outlet.Outlet.{Outlet}
+use Rattle.casper_app.specs.declared.replay.Replay.{Replay}
+use Rattle.casper_app.specs.declared.schedule.Parsed.{Parsed}
+use Rattle.casper_app.specs.declared.schedule.Parsed.TheVariants as parsed
+use Rattle.casper_app.specs.Schedule.{parsed_line}
+use Rattle.casper_app.specs.Carrying.{Carries}
+use Rattle.casper_app.specs.Lines.{event_of_parsed, event_of_line, events_in, IsTaken, IsTakenAs, AreTaken}
+use Rattle.casper_app.specs.Outlet.{keeps, writes, kept_of, written_of}
+use Rattle.casper_app.specs.Reading.{Stands, IsReading, stop_of}
+use Rattle.casper_app.specs.Replay.{EndsFor, IsTold, WritesButTheLast, WritesAnswers}
+use Rattle.casper_app.specs.Taking.{CarriesLine, TakesInput, NoLine}
+use Rattle.casper_app.proofs.CarryLemmas.{carries_none, carries_line, carries_still}
 
 taken_more : (lines : List (List ℕ)) (line : List ℕ) → AreTaken lines → IsTaken line → AreTaken (lines ++ line ∷ [])
 taken_more [] line each one = (one, tt)
 taken_more (first ∷ lines) line each one = (each.0, taken_more lines line each.1 one)
 
--- what stands after one more line
-session_more : (pages : ℕ) (lines : List (List ℕ)) (line : List ℕ) → session_after pages (events_in (lines ++ line ∷ [])) ≡ after_line (session_after pages (events_in lines)) line
-session_more pages lines line =
-    ap (session_after pages) (filter_map-append event_in lines (line ∷ []))
-    ∙ fold-append after_event (at_start pages) (events_in lines) (events_in (line ∷ []))
-    ∙ by_event (event_in line) (session_after pages (events_in lines))
-  where
-    by_event : (asked : Option Event) (session : Session) → fold after_event session (filter_map (λ (l : List ℕ). asked) (line ∷ [])) ≡ option_map_or (after_event session) asked session
-    by_event None session = refl
-    by_event (Some asked) session = refl
+-- a line that asks for an event is none that is refused
+taken_as : (said : Parsed) (asked : Event) → event_of_parsed said ≡ Some asked → IsTakenAs said
+taken_as parsed.Skip asked asks = tt
+taken_as (parsed.Event one) asked asks = tt
+taken_as parsed.Unbuilt asked asks = cc
+taken_as parsed.Bad asked asks = cc
 
--- the answers after a line are those before it, and then the line's
-answers_more : (session : Session) (line : List ℕ) → (after_line session line).answers ≡ session.answers ++ answers_in session line
-answers_more session line = by_event (event_in line)
-  where
-    by_event : (asked : Option Event) → (option_map_or (after_event session) asked session).answers ≡ session.answers ++ option_map_or (λ e. answer_in session e ∷ []) asked []
-    by_event None = sym (append-nil session.answers)
-    by_event (Some asked) = refl
+-- the events of one more line
+pub events_more : (lines : List (List ℕ)) (line : List ℕ) → events_in (lines ++ line ∷ []) ≡ events_in lines ++ events_in (line ∷ [])
+events_more lines line = filter_map-append event_of_line lines (line ∷ [])
 
--- before any line
-pub stands_first : (pages : ℕ) (left taken : Option (List ℕ)) → Stands pages 0 left left taken taken (at_start pages)
-stands_first pages left taken = record { lines = []; counted = refl; reads = refl; each = tt; is = refl; written = sym (append_known-nil taken) }
+-- the answers that are kept, and those that are written, of more answers
+part_more : (test : Bool) (given more : List Answer) → cond test (given ++ more) [] ≡ cond test given [] ++ cond test more []
+part_more true given more = refl
+part_more false given more = refl
 
--- the text of more answers is written behind the text of those before
-written_more : (first between last : Option (List ℕ)) (before more : List Answer) → between ≡ append_known first (answer_lines before) → last ≡ append_known between (answer_lines more) → last ≡ append_known first (answer_lines (before ++ more))
-written_more first between last before more start end =
+kept_more : (first middle last : List Answer) (outlet outlet' : Outlet) (given more : List Answer) → middle ≡ first ++ kept_of outlet given → outlet' ≡ outlet
+    → last ≡ middle ++ kept_of outlet' more → last ≡ first ++ kept_of outlet (given ++ more)
+kept_more first middle last outlet outlet' given more start same end =
+    end ∙ ap (λ (o : Outlet). middle ++ kept_of o more) same ∙ ap (λ (m : List Answer). m ++ kept_of outlet more) start
+    ∙ append_assoc first (kept_of outlet given) (kept_of outlet more) ∙ ap (λ (rest : List Answer). first ++ rest) (sym (part_more (keeps outlet) given more))
+
+-- the text of more answers is written after the text of those before
+text_more : (first between last : Option (List ℕ)) (before more : List Answer) → between ≡ append_known first (answer_lines before) → last ≡ append_known between (answer_lines more) → last ≡ append_known first (answer_lines (before ++ more))
+text_more first between last before more start end =
     end ∙ ap (λ (known : Option (List ℕ)). append_known known (answer_lines more)) start
     ∙ append_known-append first (answer_lines before) (answer_lines more)
     ∙ ap (append_known first) (sym (flat_map-append answer_line before more))
 
--- after one more line that was taken
-pub stands_more : (pages count : ℕ) (first left last taken_first taken taken_last : Option (List ℕ)) (session session' : Session) (line : List ℕ)
-    → Stands pages count first left taken_first taken session → WhereTold left last (TakesLine line) → IsTaken line
-    → session' ≡ after_line session line → taken_last ≡ append_known taken (answer_lines (answers_in session line))
-    → Stands pages (count + 1) first last taken_first taken_last session'
-stands_more pages count first left last taken_first taken taken_last session session' line stands takes one after written = record {
-  lines = stands.lines ++ line ∷ [];
-  counted = length-append stands.lines (line ∷ []) ∙ ap (λ (n : ℕ). n + 1) stands.counted;
-  reads = reads_more first stands.lines left line last stands.reads takes;
-  each = taken_more stands.lines line stands.each one;
-  is = after ∙ ap (λ (s : Session). after_line s line) stands.is ∙ sym (session_more pages stands.lines line);
-  written = written_more first_known taken taken_last session.answers (answers_in session line) stands.written written
-      ∙ ap (λ (answers : List Answer). append_known taken_first (answer_lines answers)) (sym (ap (λ (s : Session). s.answers) after ∙ answers_more session line));
-}
-  where
-    first_known : Option (List ℕ)
-    first_known = taken_first
+written_more : (first between last : Option (List ℕ)) (outlet outlet' : Outlet) (given more : List Answer) → between ≡ append_known first (answer_lines (written_of outlet given)) → outlet' ≡ outlet
+    → last ≡ append_known between (answer_lines (written_of outlet' more)) → last ≡ append_known first (answer_lines (written_of outlet (given ++ more)))
+written_more first between last outlet outlet' given more start same end =
+    text_more first between last (written_of outlet given) (written_of outlet more) start (end ∙ ap (λ (o : Outlet). append_known between (answer_lines (written_of o more))) same)
+    ∙ ap (λ (told : List Answer). append_known first (answer_lines told)) (sym (part_more (writes outlet) given more))
 
--- what a text lacks behind a shorter front is something
+none_of : (test : Bool) → ◌≡◌ {A = List Answer} (cond test [] []) []
+none_of true = refl
+none_of false = refl
+
+-- before any line
+pub stands_first : {V : Type 0} (tells : Bool) (faults : V → ℕ) (left taken : Option (List ℕ)) (replay : Replay V) → replay.core.calls ≡ 0 → Stands tells faults 0 left left taken taken replay replay
+stands_first tells faults left taken replay calls = record {
+  lines = [];
+  counted = refl;
+  reads = refl;
+  each = tt;
+  given = [];
+  carries = carries_none tells faults replay.core calls;
+  outlet = refl;
+  kept = sym (ap (λ (none : List Answer). replay.answers.items ++ none) (none_of (keeps replay.outlet)) ∙ append-nil replay.answers.items);
+  written = sym (ap (λ (none : List Answer). append_known taken (answer_lines none)) (none_of (writes replay.outlet)) ∙ append_known-nil taken);
+}
+
+-- what a text lacks after a shorter front is something
 pub rest_of_front : (text : List ℕ) (count : ℕ) → count < length text → drop count text ≢ []
 rest_of_front text count short none = absurd (omega (arith, length-drop count text, ap length none, short))
 
--- the answer to an event was cut, behind the whole text of the answers before it
+-- the answer to an event was cut, after the whole text of the answers before it
 cut_at : (first between last : Option (List ℕ)) (before : List Answer) (given : Answer) (told : List Answer) → told ≡ before ++ given ∷ []
     → between ≡ append_known first (answer_lines before) → TakesFront between last (answer_line given)
     → (out : List ℕ) × (last ≡ append_known first out) × WritesButTheLast told out
@@ -103,173 +111,197 @@ cut_at first between last before given told is start front = (
   },
 )
 
--- no line stood next
-pub reading_ended : (pages count : ℕ) (first left last taken_first taken : Option (List ℕ)) (session : Session) (said : Cause)
-    → Stands pages count first left taken_first taken session → count ≤ most_lines → NextEnds said (count + 1) left last
-    → IsReading pages first last taken_first taken session said count
-reading_ended pages count first left last taken_first taken session said stands few next = record {
-  lines = stands.lines;
-  rest = left;
-  reads = stands.reads;
-  each = stands.each;
-  few = omega (arith, stands.counted);
-  counted = λ done. stands.counted;
-  ends = ends_for said next;
-  is = stands.is;
-  out = answer_lines session.answers;
-  taken_is = stands.written;
-  told = session.answers;
-  told_is = inl refl;
-  written = all_written said next;
-}
-  where
-    ends_for : (c : Cause) → NextEnds c (count + 1) left last → EndsFor c stands.lines left last
-    ends_for cause.Done h = h
-    ends_for cause.Usage h = h
-    ends_for cause.Read h = h
-    ends_for cause.Write h = absurd h
-    ends_for cause.Memory h = absurd h
-    ends_for (cause.BadLine n) h = (h.0 ∙ ap (λ (k : ℕ). k + 1) (sym stands.counted), (h.1, inl h.2))
-    ends_for (cause.Unbuilt n) h = absurd h
+-- what a line with an answer comes to, after the lines before it
+module _ {V : Type 0} {tells : Bool} {faults : V → ℕ} {count : ℕ} {first left : Option (List ℕ)} (last : Option (List ℕ)) {taken_first taken : Option (List ℕ)} (taken_last : Option (List ℕ))
+    {old middle : Replay V} (new : Replay V) (line : List ℕ) (stands : Stands tells faults count first left taken_first taken old middle) (takes : WhereTold left last (TakesLine line)) where
+  -- the events and the answers of the lines with this one
+  carries_with : (given : Option Answer) → CarriesLine tells faults line given middle.core new.core → is_some given ≡ is_some (event_of_line line)
+      → Carries tells faults (events_in (stands.lines ++ line ∷ [])) (stands.given ++ option_to_list given) old.core new.core
+  carries_with given carries test =
+      subst (λ (events : List Event). Carries tells faults events (stands.given ++ option_to_list given) old.core new.core) (sym (events_more stands.lines line))
+      (carries_line tells faults (events_in stands.lines) stands.given line given old.core middle.core new.core stands.carries carries test)
 
-    all_written : (c : Cause) → NextEnds c (count + 1) left last → WritesAnswers c session.answers (answer_lines session.answers)
-    all_written cause.Done h = refl
-    all_written cause.Usage h = refl
-    all_written cause.Read h = refl
-    all_written cause.Write h = absurd h
-    all_written cause.Memory h = refl
-    all_written (cause.BadLine n) h = refl
-    all_written (cause.Unbuilt n) h = refl
+  kept_with : (given : Option Answer) → new.answers.items ≡ middle.answers.items ++ kept_of middle.outlet (option_to_list given)
+      → new.answers.items ≡ old.answers.items ++ kept_of old.outlet (stands.given ++ option_to_list given)
+  kept_with given kept = kept_more old.answers.items middle.answers.items new.answers.items old.outlet middle.outlet stands.given (option_to_list given) stands.kept stands.outlet kept
 
--- one line too many stood next
-pub reading_past : (pages : ℕ) (first left last taken_first taken : Option (List ℕ)) (session : Session) (line : List ℕ)
-    → Stands pages most_lines first left taken_first taken session → WhereTold left last (TakesLine line)
-    → IsReading pages first last taken_first taken session (cause.BadLine (most_lines + 1)) most_lines
-reading_past pages first left last taken_first taken session line stands takes = record {
-  lines = stands.lines;
-  rest = left;
-  reads = stands.reads;
-  each = stands.each;
-  few = omega (arith, stands.counted);
-  counted = λ done. stands.counted;
-  ends = (ap (λ (k : ℕ). k + 1) (sym stands.counted), (line, inr (takes, inr refl)));
-  is = stands.is;
-  out = answer_lines session.answers;
-  taken_is = stands.written;
-  told = session.answers;
-  told_is = inl refl;
-  written = refl;
-}
+  -- after a line that was taken
+  pub stands_more : TakesInput tells faults (count + 1) line middle new taken taken_last (Ok tt) → Stands tells faults (count + 1) first last taken_first taken_last old new
+  stands_more input = record {
+    lines = stands.lines ++ line ∷ [];
+    counted = length-append stands.lines (line ∷ []) ∙ ap (λ (n : ℕ). n + 1) stands.counted;
+    reads = reads_more first stands.lines left line last stands.reads takes;
+    each = taken_more stands.lines line stands.each input.writes.0;
+    given = stands.given ++ option_to_list input.given;
+    carries = carries_with input.given input.carries input.writes.1;
+    outlet = input.outlet ∙ stands.outlet;
+    kept = kept_with input.given input.kept;
+    written = written_more taken_first taken taken_last old.outlet middle.outlet stands.given (option_to_list input.given) stands.written stands.outlet input.writes.2;
+  }
 
--- what stood next behind as many lines as there may be
-pub reading_at_most : (pages count : ℕ) (first left last taken_first taken : Option (List ℕ)) (session : Session) (line : List ℕ) (found : Option Cause) (said : Cause)
-    → Stands pages count first left taken_first taken session → count ≡ most_lines
-    → MatchOption found (WhereTold left last (TakesLine line)) (λ ended. NextEnds ended (most_lines + 1) left last)
-    → said ≡ unwrap_or found (cause.BadLine (most_lines + 1))
-    → IsReading pages first last taken_first taken session said most_lines
-reading_at_most pages count first left last taken_first taken session line found said stands most next is =
-    let there = subst (λ (n : ℕ). Stands pages n first left taken_first taken session) most stands in
-    subst (λ (s : Cause). IsReading pages first last taken_first taken session s most_lines) (sym is) (by_found there found next)
-  where
-    by_found : Stands pages most_lines first left taken_first taken session → (f : Option Cause)
-        → MatchOption f (WhereTold left last (TakesLine line)) (λ ended. NextEnds ended (most_lines + 1) left last)
-        → IsReading pages first last taken_first taken session (unwrap_or f (cause.BadLine (most_lines + 1))) most_lines
-    by_found there None told = reading_past pages first left last taken_first taken session line there told
-    by_found there (Some ended) told = reading_ended pages most_lines first left last taken_first taken session ended there (omega arith) told
+  -- a line without an answer that ended the reading
+  stays : (said : Cause) → EndsFor (Some said) stands.lines left last → WritesAnswers (Some said) (written_of old.outlet stands.given) (answer_lines (written_of old.outlet stands.given))
+      → count < most_lines → (given : Option Answer) → given ≡ None → CarriesLine tells faults line given middle.core new.core
+      → new.answers.items ≡ middle.answers.items ++ kept_of middle.outlet (option_to_list given) → taken_last ≡ taken
+      → IsReading tells faults first last taken_first taken_last old new (Err said)
+  stays said ends whole few given none carries kept same =
+      let still = subst (λ (g : Option Answer). CarriesLine tells faults line g middle.core new.core) none carries in
+      let all : new.answers.items ≡ old.answers.items ++ kept_of old.outlet (stands.given ++ option_to_list given) = kept_with given kept in
+      record {
+        lines = stands.lines;
+        rest = left;
+        reads = stands.reads;
+        each = stands.each;
+        few = omega (arith, stands.counted, few);
+        counted = tt;
+        ends = ends;
+        given = stands.given;
+        carries = carries_still tells faults (events_in stands.lines) stands.given old.core middle.core new.core stands.carries still;
+        kept = all ∙ ap (λ (g : Option Answer). old.answers.items ++ kept_of old.outlet (stands.given ++ option_to_list g)) none
+            ∙ ap (λ (g : List Answer). old.answers.items ++ kept_of old.outlet g) (append-nil stands.given);
+        out = answer_lines (written_of old.outlet stands.given);
+        taken_is = same ∙ stands.written;
+        told = written_of old.outlet stands.given;
+        told_is = inl refl;
+        written = whole;
+      }
 
--- an event that was carried out is that of its line
-after_carried : (session session' : Session) (line : List ℕ) → IsCarriedOut line session session' → session' ≡ after_line session line
-after_carried session session' line carried = carried.is ∙ ap (λ (asked : Option Event). option_map_or (after_event session) asked session) (sym carried.asks)
+  -- a line whose event was carried out, and whose answer was not written whole
+  carried : (said : Cause) (one : Answer) (asked : Event) → event_of_line line ≡ Some asked → (given : Option Answer) → given ≡ Some one → CarriesLine tells faults line given middle.core new.core
+      → new.answers.items ≡ middle.answers.items ++ kept_of middle.outlet (option_to_list given) → count < most_lines
+      → EndsFor (Some said) (stands.lines ++ line ∷ []) last last
+      → (told : List Answer) → IsTold (Some said) (written_of old.outlet (stands.given ++ one ∷ [])) told
+      → (out : List ℕ) → taken_last ≡ append_known taken_first out → WritesAnswers (Some said) told out
+      → IsReading tells faults first last taken_first taken_last old new (Err said)
+  carried said one asked asks given some carries kept few ends told told_is out taken_is written =
+      let test : is_some given ≡ is_some (event_of_line line) = ap is_some some ∙ sym (ap is_some asks) in
+      let all = carries_with given carries test in
+      let both : new.answers.items ≡ old.answers.items ++ kept_of old.outlet (stands.given ++ option_to_list given) = kept_with given kept in
+      record {
+        lines = stands.lines ++ line ∷ [];
+        rest = last;
+        reads = reads_more first stands.lines left line last stands.reads takes;
+        each = taken_more stands.lines line stands.each (taken_as (parsed_line line) asked asks);
+        few = omega (arith, length-append stands.lines (line ∷ []), stands.counted, few);
+        counted = tt;
+        ends = ends;
+        given = stands.given ++ one ∷ [];
+        carries = subst (λ (g : Option Answer). Carries tells faults (events_in (stands.lines ++ line ∷ [])) (stands.given ++ option_to_list g) old.core new.core) some all;
+        kept = both ∙ ap (λ (g : Option Answer). old.answers.items ++ kept_of old.outlet (stands.given ++ option_to_list g)) some;
+        out = out;
+        taken_is = taken_is;
+        told = told;
+        told_is = told_is;
+        written = written;
+      }
 
--- a line was refused, or memory was short, or the sink failed at its answer
-pub reading_refused : (pages count : ℕ) (first left last taken_first taken taken_last : Option (List ℕ)) (session session' : Session) (line : List ℕ) (said : Cause)
-    → Stands pages count first left taken_first taken session → count < most_lines → WhereTold left last (TakesLine line)
-    → TakesInput (count + 1) line session session' taken taken_last (Err said)
-    → IsReading pages first last taken_first taken_last session' said count
-reading_refused pages count first left last taken_first taken taken_last session session' line cause.Done stands few takes h = absurd h
-reading_refused pages count first left last taken_first taken taken_last session session' line cause.Usage stands few takes h = absurd h
-reading_refused pages count first left last taken_first taken taken_last session session' line cause.Read stands few takes h = absurd h
-reading_refused pages count first left last taken_first taken taken_last session session' line cause.Write stands few takes h =
-    let answered : session'.answers ≡ session.answers ++ answer_in session h.0.asked ∷ [] = ap (λ (s : Session). s.answers) h.0.is in
-    let cut = cut_at taken_first taken taken_last session.answers (answer_in session h.0.asked) session'.answers answered stands.written h.1 in record {
-      lines = stands.lines ++ line ∷ [];
-      rest = last;
-      reads = reads_more first stands.lines left line last stands.reads takes;
-      each = taken_more stands.lines line stands.each h.0.taken;
-      few = omega (arith, length-append stands.lines (line ∷ []), stands.counted);
-      counted = λ done. cc;
-      ends = (refl, record { front = stands.lines; line = line; is_last = refl; asked = h.0.asked; asks = h.0.asks });
-      is = after_carried session session' line h.0 ∙ ap (λ (s : Session). after_line s line) stands.is ∙ sym (session_more pages stands.lines line);
-      out = cut.0;
-      taken_is = cut.1;
-      told = session'.answers;
-      told_is = inl refl;
-      written = cut.2;
-    }
-reading_refused pages count first left last taken_first taken taken_last session session' line cause.Memory stands few takes h = elim h.0 [
-  | inl same ↦ record {
+  -- memory was short before a line's event was carried out, or for the text of its answer
+  pub short_of_memory : (given : Option Answer) → CarriesLine tells faults line given middle.core new.core
+      → new.answers.items ≡ middle.answers.items ++ kept_of middle.outlet (option_to_list given) → count < most_lines → taken_last ≡ taken
+      → IsReading tells faults first last taken_first taken_last old new (Err cause.Memory)
+  short_of_memory None carries kept few same = stays cause.Memory (inr (Ok next.Line, line, takes)) refl few None refl carries kept same
+  short_of_memory (Some one) carries kept few same =
+      carried cause.Memory one carries.0 carries.1 (Some one) refl carries kept few (inl refl) (written_of old.outlet stands.given) (all_but_one (writes old.outlet))
+      (answer_lines (written_of old.outlet stands.given)) (same ∙ stands.written) refl
+    where
+      all_but_one : (test : Bool) → IsTold (Some cause.Memory) (cond test (stands.given ++ one ∷ []) []) (cond test stands.given [])
+      all_but_one true = inr (refl, one, refl)
+      all_but_one false = inl refl
+
+  -- the sink failed at the answer
+  pub cut_short : (one : Answer) (given : Option Answer) → given ≡ Some one → CarriesLine tells faults line given middle.core new.core
+      → new.answers.items ≡ middle.answers.items ++ kept_of middle.outlet (option_to_list given) → count < most_lines
+      → written_of middle.outlet (one ∷ []) ≡ one ∷ [] → TakesFront taken taken_last (answer_line one)
+      → IsReading tells faults first last taken_first taken_last old new (Err cause.Write)
+  cut_short one given some carries kept few whole front =
+      let step = subst (λ (g : Option Answer). CarriesLine tells faults line g middle.core new.core) some carries in
+      let cut = cut_at taken_first taken taken_last (written_of old.outlet stands.given) one
+      (written_of old.outlet (stands.given ++ one ∷ []))
+      (part_more (writes old.outlet) stands.given (one ∷ []) ∙ ap (λ (w : List Answer). written_of old.outlet stands.given ++ w) (sym (ap (λ (o : Outlet). written_of o (one ∷ [])) stands.outlet) ∙ whole))
+      stands.written front in
+      carried cause.Write one step.0 step.1 given some carries kept few
+      (refl, record { front = stands.lines; line = line; is_last = refl; asked = step.0; asks = step.1 })
+      (written_of old.outlet (stands.given ++ one ∷ [])) (inl refl) cut.0 cut.1 cut.2
+
+  -- a line was refused, or memory was short, or the sink failed at its answer
+  pub reading_refused : (said : Cause) → count < most_lines → TakesInput tells faults (count + 1) line middle new taken taken_last (Err said)
+      → IsReading tells faults first last taken_first taken_last old new (Err said)
+  reading_refused cause.Usage few input = absurd input.writes
+  reading_refused cause.Read few input = absurd input.writes
+  reading_refused cause.Write few input = cut_short input.writes.0 input.given input.writes.1 input.carries input.kept few input.writes.2 input.writes.3
+  reading_refused cause.Memory few input = short_of_memory input.given input.carries input.kept few input.writes
+  reading_refused (cause.BadLine n) few input =
+      stays (cause.BadLine n) (input.writes.0 ∙ ap (λ (k : ℕ). k + 1) (sym stands.counted), (line, inr (takes, inl input.writes.1))) refl few
+      input.given input.writes.2 input.carries input.kept input.writes.3
+  reading_refused (cause.Illegal at rule) few input = absurd input.writes
+  reading_refused (cause.Unbuilt n) few input =
+      stays (cause.Unbuilt n) (input.writes.0 ∙ ap (λ (k : ℕ). k + 1) (sym stands.counted), (omega (arith, input.writes.0, few), line, takes, input.writes.1)) refl few
+      input.given input.writes.2 input.carries input.kept input.writes.3
+
+module _ {V : Type 0} {tells : Bool} {faults : V → ℕ} {count : ℕ} {first left last taken_first taken : Option (List ℕ)} {old middle : Replay V}
+    (stands : Stands tells faults count first left taken_first taken old middle) where
+  -- the reading ended after the lines that were answered
+  ended : (result : Result ℕ Cause) → count ≤ most_lines → (told_count : MatchResult result (λ all. all ≡ count) (λ cause. Unit {0})) → EndsFor (stop_of result) stands.lines left last
+      → WritesAnswers (stop_of result) (written_of old.outlet stands.given) (answer_lines (written_of old.outlet stands.given))
+      → IsReading tells faults first last taken_first taken old middle result
+  ended result few told_count ends whole = record {
     lines = stands.lines;
     rest = left;
     reads = stands.reads;
     each = stands.each;
-    few = omega (arith, stands.counted);
-    counted = λ done. stands.counted;
-    ends = inr (Ok next.Line, line, takes);
-    is = same ∙ stands.is;
-    out = answer_lines session.answers;
-    taken_is = h.1 ∙ stands.written;
-    told = session.answers;
-    told_is = inl (ap (λ (s : Session). s.answers) same);
-    written = refl;
+    few = omega (arith, stands.counted, few);
+    counted = counted_by result told_count;
+    ends = ends;
+    given = stands.given;
+    carries = stands.carries;
+    kept = stands.kept;
+    out = answer_lines (written_of old.outlet stands.given);
+    taken_is = stands.written;
+    told = written_of old.outlet stands.given;
+    told_is = inl refl;
+    written = whole;
   }
-  | inr carried ↦ record {
-    lines = stands.lines ++ line ∷ [];
-    rest = last;
-    reads = reads_more first stands.lines left line last stands.reads takes;
-    each = taken_more stands.lines line stands.each carried.taken;
-    few = omega (arith, length-append stands.lines (line ∷ []), stands.counted);
-    counted = λ done. cc;
-    ends = inl refl;
-    is = after_carried session session' line carried ∙ ap (λ (s : Session). after_line s line) stands.is ∙ sym (session_more pages stands.lines line);
-    out = answer_lines session.answers;
-    taken_is = h.1 ∙ stands.written;
-    told = session.answers;
-    told_is = inr (refl, answer_in session carried.asked, ap (λ (s : Session). s.answers) carried.is);
-    written = refl;
-  }
-]
-reading_refused pages count first left last taken_first taken taken_last session session' line (cause.BadLine n) stands few takes h = record {
-  lines = stands.lines;
-  rest = left;
-  reads = stands.reads;
-  each = stands.each;
-  few = omega (arith, stands.counted);
-  counted = λ done. stands.counted;
-  ends = (h.0 ∙ ap (λ (k : ℕ). k + 1) (sym stands.counted), (line, inr (takes, inl h.1)));
-  is = h.2 ∙ stands.is;
-  out = answer_lines session'.answers;
-  taken_is = h.3 ∙ stands.written ∙ ap (λ (s : Session). append_known taken_first (answer_lines s.answers)) (sym h.2);
-  told = session'.answers;
-  told_is = inl refl;
-  written = refl;
-}
-reading_refused pages count first left last taken_first taken taken_last session session' line (cause.Unbuilt n) stands few takes h = record {
-  lines = stands.lines;
-  rest = left;
-  reads = stands.reads;
-  each = stands.each;
-  few = omega (arith, stands.counted);
-  counted = λ done. stands.counted;
-  ends = (h.0 ∙ ap (λ (k : ℕ). k + 1) (sym stands.counted), (omega (arith, h.0), line, takes, h.1));
-  is = h.2 ∙ stands.is;
-  out = answer_lines session'.answers;
-  taken_is = h.3 ∙ stands.written ∙ ap (λ (s : Session). append_known taken_first (answer_lines s.answers)) (sym h.2);
-  told = session'.answers;
-  told_is = inl refl;
-  written = refl;
-}
+    where
+      counted_by : (r : Result ℕ Cause) → MatchResult r (λ all. all ≡ count) (λ cause. Unit {0}) → MatchResult r (λ all. length stands.lines ≡ all) (λ cause. Unit {0})
+      counted_by (Ok all) same = stands.counted ∙ sym same
+      counted_by (Err cause) same = tt
+
+  -- the source is at its end
+  pub reading_done : count ≤ most_lines → WhereTold left last (TakesEnd []) → IsReading tells faults first last taken_first taken old middle (Ok count)
+  reading_done few takes = ended (Ok count) few refl takes refl
+
+  -- no line stood next
+  pub reading_failed : (said : Cause) → count ≤ most_lines → NoLine said (count + 1) left last → IsReading tells faults first last taken_first taken old middle (Err said)
+  reading_failed cause.Usage few next = absurd next
+  reading_failed cause.Read few next = ended (Err cause.Read) few tt next refl
+  reading_failed cause.Write few next = absurd next
+  reading_failed cause.Memory few next = absurd next
+  reading_failed (cause.BadLine n) few next =
+      ended (Err (cause.BadLine n)) few tt (next.0 ∙ ap (λ (k : ℕ). k + 1) (sym stands.counted), (next.1, inl next.2)) refl
+  reading_failed (cause.Illegal at rule) few next = absurd next
+  reading_failed (cause.Unbuilt n) few next = absurd next
+
+  -- no line stood next after as many as there may be
+  pub reading_failed_last : (said : Cause) → count ≡ most_lines → NoLine said (most_lines + 1) left last → IsReading tells faults first last taken_first taken old middle (Err said)
+  reading_failed_last said all next =
+      reading_failed said (omega (arith, all)) (let same : most_lines + 1 ≡ count + 1 = omega (arith, all) in subst (λ (n : ℕ). NoLine said n left last) same next)
+
+  -- one line too many stood next
+  pub reading_past : (line : List ℕ) → count ≡ most_lines → WhereTold left last (TakesLine line) → IsReading tells faults first last taken_first taken old middle (Err (cause.BadLine (most_lines + 1)))
+  reading_past line all takes =
+      ended (Err (cause.BadLine (most_lines + 1))) (omega (arith, all)) tt (omega (arith, stands.counted, all), (line, inr (takes, inr refl))) refl
 
 -- what a line did, by its bytes in other words
-pub input_at : (number : ℕ) (line line' : List ℕ) (session session' : Session) (taken taken_last : Option (List ℕ)) (result : Result (Unit {0}) Cause)
-    → line ≡ line' → TakesInput number line session session' taken taken_last result → TakesInput number line' session session' taken taken_last result
-input_at number line line' session session' taken taken_last result same h = subst (λ (l : List ℕ). TakesInput number l session session' taken taken_last result) same h
+pub input_at : {V : Type 0} (tells : Bool) (faults : V → ℕ) (number : ℕ) (line line' : List ℕ) (old new : Replay V) (taken taken_last : Option (List ℕ)) (result : Result (Unit {0}) Cause)
+    → line ≡ line' → TakesInput tells faults number line old new taken taken_last result → TakesInput tells faults number line' old new taken taken_last result
+input_at tells faults number line line' old new taken taken_last result same h = subst (λ (l : List ℕ). TakesInput tells faults number l old new taken taken_last result) same h
+
+-- a line stood next
+pub is_line : (P Q : Type 0) (found : Bool) → found ≡ true → MatchBool found P Q → P
+is_line P Q true e h = h
+is_line P Q false e h = cc
+
+-- what holds of the one error holds of the result
+pub err_is : {T : Type 0} (result : Result T Cause) (why : Cause) (P : Result T Cause → Type 0) → IsErrAnd result (λ e. e ≡ why) → P (Err why) → P result
+err_is (Ok x) why P fails h = absurd fails
+err_is {T} (Err e) why P fails h = subst (λ (f : Cause). P (Err f)) (sym fails) h

@@ -1,189 +1,270 @@
-use Rattle.std.proofs.Common.{◌≡◌, arith, ℕ, List, [], ◌∷◌, ◌++◌, Option, Some, None, Ok, Err, ap, sym, subst, ◌∙◌, refl, length, append_assoc, inl, inr, ◌≢◌, ◌⊎◌, IfSome}
-use Rattle.std.proofs.lemmas.List.{append-nil}
+use Rattle.std.proofs.Common.{◌≡◌, arith, ℕ, Bool, true, false, cond, List, [], ◌++◌, Option, Some, None, Result, Ok, Err, ap, sym, subst, ◌∙◌, refl, length, inl, inr, ◌≢◌, ◌⊎◌, IfSome}
+use Rattle.std.specs.Prelude.{IsTrue}
 use Rattle.std.specs.Io.KnownBytes.{append_known}
-use Rattle.casper_io.proofs.Known.{append_known-nil, append_known-append}
+use Rattle.casper_audit.specs.declared.verdict.AuditFault.{AuditFault}
+use Rattle.casper_audit.specs.declared.verdict.AuditFault.TheVariants as trail_fault
+use Rattle.casper_audit.specs.declared.verdict.Verdict.{Verdict}
+use Rattle.casper_audit.specs.declared.verdict.Verdict.TheVariants as verdict
+use Rattle.casper_audit.specs.Verdicts.{IsAudit}
+use Rattle.casper_io.proofs.Known.{append_known-append}
 use Rattle.casper_io.specs.Told.{WhereTold}
 use Rattle.casper_io.specs.Lines.{TakesEnd}
+use Rattle.casper_io.specs.Reading.{TakesAny}
 use Rattle.casper_io.specs.declared.fault.IoFault.TheVariants as fault
 use Rattle.casper_io.specs.declared.lines.Next.TheVariants as next
 use Rattle.casper_trail.specs.declared.item.Item.{Item}
-use Rattle.casper_trail.specs.Value.{zero_pages}
 use Rattle.casper_trail.specs.Legal.{IsLegal}
+use Rattle.casper_model.specs.State.{State, zero_vault}
 use Rattle.casper_model.specs.WholeHistory.{whole_of}
+use Rattle.casper_core.specs.Represents.{Represents}
+use Rattle.casper_core.specs.Stepping.{RoseBy, failures_in}
 use Rattle.casper_space.specs.declared.answer.Answer.{Answer}
+use Rattle.casper_report.specs.Texts.{answer_lines}
 use Rattle.casper_app.specs.declared.cause.Cause.{Cause}
 use Rattle.casper_app.specs.declared.cause.Cause.TheVariants as cause
-use Rattle.casper_app.specs.declared.summary.Summary.{Summary}
+use Rattle.casper_app.specs.declared.command.Opening.{Opening}
+use Rattle.casper_app.specs.declared.end.End.{End}
+use Rattle.casper_app.specs.declared.end.End.TheVariants as end
+use Rattle.casper_app.specs.declared.outlet.Outlet.{Outlet}
+use Rattle.casper_app.specs.declared.outlet.Outlet.TheVariants as outlet
+use Rattle.casper_app.specs.declared.replay.Replay.{Replay}
+use Rattle.casper_app.specs.Carrying.{summary_in}
+use Rattle.casper_app.specs.Lines.{events_in}
+use Rattle.casper_app.specs.Outlet.{keeps, writes, kept_of, written_of}
+use Rattle.casper_app.specs.Session.{IsSession, state_behind, trail_behind, summary_of}
+use Rattle.casper_app.specs.Replay.{EndsFor, IsTold, WritesFor, WritesAnswers, TellsOf, cause_of}
+use Rattle.casper_app.specs.Reading.{IsReading, stop_of}
+use Rattle.casper_app.specs.Ending.{EndsWith, IsDone, RunsReplay, RunsInMemory, RunsRefusal, IsLegalInMemory, start_of, RunsAudit, end_of_audit}
+use Rattle.casper_app.specs.Texts.{end_line}
+use Rattle.casper_app.proofs.CarryLemmas.{session_carried, stands_carried, summary_carried, trail_carried}
 use Rattle.casper_app.proofs.SessionLemmas.{sessions_are_legal}
-use Rattle.casper_app.specs.Session.{Session, at_start, trail_of, summary_of}
-use Rattle.casper_app.specs.Replay.{EndsFor, TakesAny, IsTold, IsReplay, WritesFor, WritesAnswers, ending_line, unread_summary}
-use Rattle.casper_app.specs.Reading.{IsReading}
-use Rattle.casper_app.specs.Ending.{EndsWith, RunsReplay, RunsRefusal, IsLegalReplay}
-use Rattle.casper_app.specs.Texts.{answer_lines}
+
+-- how what was said after all differs from what was meant
+Said : End → End → Type 0
+Said meant said = (said ≡ meant) ⊎ ((said ≡ end.Stopped cause.Memory) × (meant ≢ end.Stopped cause.Write))
 
 -- whatever ended the reading took what stood next, or nothing
-ends_any : (said : Cause) (lines : List (List ℕ)) (before after : Option (List ℕ)) → EndsFor said lines before after → TakesAny before after
-ends_any cause.Done lines before after h = inr (Ok next.End, [], h)
-ends_any cause.Usage lines before after h = absurd h
-ends_any cause.Read lines before after h = inr (Err fault.Failed, h.0, h.1)
-ends_any cause.Write lines before after h = inl h.0
-ends_any cause.Memory lines before after h = h
-ends_any (cause.BadLine n) lines before after h = elim h.1.1 [ inl long ↦ inr (Ok next.TooLong, h.1.0, long) | inr line ↦ inr (Ok next.Line, h.1.0, line.0) ]
-ends_any (cause.Unbuilt n) lines before after h = inr (Ok next.Line, h.1.1, h.1.2)
+ends_any : (said : Option Cause) (lines : List (List ℕ)) (before after : Option (List ℕ)) → EndsFor said lines before after → TakesAny before after
+ends_any None lines before after h = inr (Ok next.End, [], h)
+ends_any (Some cause.Usage) lines before after h = absurd h
+ends_any (Some cause.Read) lines before after h = inr (Err fault.Failed, h.0, h.1)
+ends_any (Some cause.Write) lines before after h = inl h.0
+ends_any (Some cause.Memory) lines before after h = h
+ends_any (Some (cause.BadLine n)) lines before after h = elim h.1.1 [ inl long ↦ inr (Ok next.TooLong, h.1.0, long) | inr line ↦ inr (Ok next.Line, h.1.0, line.0) ]
+ends_any (Some (cause.Illegal at rule)) lines before after h = absurd h
+ends_any (Some (cause.Unbuilt n)) lines before after h = inr (Ok next.Line, h.1.1, h.1.2)
 
 -- where the sink did not fail at an answer, all of them were written whole
-answers_whole : (said : Cause) (told : List Answer) (out : List ℕ) → said ≢ cause.Write → WritesAnswers said told out → out ≡ answer_lines told
-answers_whole cause.Done told out not_write h = h
-answers_whole cause.Usage told out not_write h = h
-answers_whole cause.Read told out not_write h = h
-answers_whole cause.Write told out not_write h = absurd (not_write refl)
-answers_whole cause.Memory told out not_write h = h
-answers_whole (cause.BadLine n) told out not_write h = h
-answers_whole (cause.Unbuilt n) told out not_write h = h
+answers_whole : (meant : End) (told : List Answer) (out : List ℕ) → meant ≢ end.Stopped cause.Write → WritesAnswers (cause_of meant) told out → out ≡ answer_lines told
+answers_whole (end.Done summary) told out not_write h = h
+answers_whole (end.Legal entries) told out not_write h = h
+answers_whole (end.Stopped cause.Usage) told out not_write h = h
+answers_whole (end.Stopped cause.Read) told out not_write h = h
+answers_whole (end.Stopped cause.Write) told out not_write h = absurd (not_write refl)
+answers_whole (end.Stopped cause.Memory) told out not_write h = h
+answers_whole (end.Stopped (cause.BadLine n)) told out not_write h = h
+answers_whole (end.Stopped (cause.Illegal at rule)) told out not_write h = h
+answers_whole (end.Stopped (cause.Unbuilt n)) told out not_write h = h
 
 -- the answers as they were written, for what was said after all
-answers_by : (meant said : Cause) (told : List Answer) (out : List ℕ) → (said ≡ meant) ⊎ ((said ≡ cause.Memory) × (meant ≢ cause.Write))
-    → WritesAnswers meant told out → WritesAnswers said told out
+answers_by : (meant said : End) (told : List Answer) (out : List ℕ) → Said meant said → WritesAnswers (cause_of meant) told out → WritesAnswers (cause_of said) told out
+unfolding Said
 answers_by meant said told out why h = elim why [
-  | inl same ↦ subst (λ (c : Cause). WritesAnswers c told out) (sym same) h
-  | inr memory ↦ subst (λ (c : Cause). WritesAnswers c told out) (sym memory.0) (answers_whole meant told out memory.1 h)
+  | inl same ↦ subst (λ (e : End). WritesAnswers (cause_of e) told out) (sym same) h
+  | inr memory ↦ subst (λ (e : End). WritesAnswers (cause_of e) told out) (sym memory.0) (answers_whole meant told out memory.1 h)
 ]
 
--- only the line that ends a replay whose input was read to its end has the summary
-same_ending : (said : Cause) (told summary : Summary) → (said ≡ cause.Done → told ≡ summary) → ending_line said told ≡ ending_line said summary
-same_ending cause.Done told summary same = ap (ending_line cause.Done) (same refl)
-same_ending cause.Usage told summary same = refl
-same_ending cause.Read told summary same = refl
-same_ending cause.Write told summary same = refl
-same_ending cause.Memory told summary same = refl
-same_ending (cause.BadLine n) told summary same = refl
-same_ending (cause.Unbuilt n) told summary same = refl
-
--- the last line as it was written, where only a call that is done tells of a summary
-ending_by : (meant said last : Cause) (told summary : Summary) (out : List ℕ) → (meant ≡ cause.Done → told ≡ summary)
-    → (said ≡ meant) ⊎ ((said ≡ cause.Memory) × (meant ≢ cause.Write)) → WritesFor said last (ending_line said told) out
-    → WritesFor said last (ending_line said summary) out
-ending_by meant said last told summary out counted why h =
-    let same : ending_line said told ≡ ending_line said summary = same_ending said told summary
-    (λ done. elim why [ inl meant_it ↦ counted (sym meant_it ∙ done) | inr memory ↦ (let no : cause.Done ≡ cause.Memory = sym done ∙ memory.0 in cc) ]) in
-    subst (λ (t : List ℕ). WritesFor said last t out) same h
-
-ends_by : (meant said : Cause) (lines : List (List ℕ)) (before after : Option (List ℕ)) → (said ≡ meant) ⊎ ((said ≡ cause.Memory) × (meant ≢ cause.Write))
-    → EndsFor meant lines before after → EndsFor said lines before after
+ends_by : (meant said : End) (lines : List (List ℕ)) (before after : Option (List ℕ)) → Said meant said → EndsFor (cause_of meant) lines before after → EndsFor (cause_of said) lines before after
+unfolding Said
 ends_by meant said lines before after why ends = elim why [
-  | inl same ↦ subst (λ (c : Cause). EndsFor c lines before after) (sym same) ends
-  | inr memory ↦ subst (λ (c : Cause). EndsFor c lines before after) (sym memory.0) (ends_any meant lines before after ends)
+  | inl same ↦ subst (λ (e : End). EndsFor (cause_of e) lines before after) (sym same) ends
+  | inr memory ↦ subst (λ (e : End). EndsFor (cause_of e) lines before after) (sym memory.0) (ends_any (cause_of meant) lines before after ends)
 ]
 
 -- the answers that were told are the same where it was said that memory was short after all
-told_by : (meant said : Cause) (answers told : List Answer) → (said ≡ meant) ⊎ ((said ≡ cause.Memory) × (meant ≢ cause.Write)) → IsTold meant answers told → IsTold said answers told
+told_by : (meant said : End) (answers told : List Answer) → Said meant said → IsTold (cause_of meant) answers told → IsTold (cause_of said) answers told
+unfolding Said
 told_by meant said answers told why all = elim all [
   | inl same ↦ inl same
-  | inr last ↦ inr (elim why [ inl meant_it ↦ meant_it ∙ last.0 | inr memory ↦ memory.0 ], last.1, last.2)
+  | inr last ↦ inr (elim why [ inl meant_it ↦ ap cause_of meant_it ∙ last.0 | inr memory ↦ ap cause_of memory.0 ], last.1, last.2)
 ]
 
--- a reading and the line that tells how it ended make a replay
-pub runs_replay : (pages count : ℕ) (left left_after taken between taken_after : Option (List ℕ)) (session : Session) (meant last : Cause)
-    → IsReading pages left left_after taken between session meant count
-    → EndsWith meant last (summary_of count session) between taken_after
-    → RunsReplay pages left left_after taken taken_after session.answers (trail_of session) last
-runs_replay pages count left left_after taken between taken_after session meant last reading ending = record {
-  out = reading.out ++ ending.out;
-  taken_is = ending.taken ∙ ap (λ (known : Option (List ℕ)). append_known known ending.out) reading.taken_is ∙ append_known-append taken reading.out ending.out;
+tells_by : (meant said : End) (lines : ℕ) (start : State) (given : List Answer) (all : List (List ℕ)) → Said meant said → TellsOf meant (summary_of lines start (events_in all) given)
+    → TellsOf said (summary_of lines start (events_in all) given)
+unfolding Said
+tells_by meant said lines start given all why tells = elim why [
+  | inl same ↦ subst (λ (e : End). TellsOf e (summary_of lines start (events_in all) given)) (sym same) tells
+  | inr memory ↦ subst (λ (e : End). TellsOf e (summary_of lines start (events_in all) given)) (sym memory.0) tt
+]
+
+module _ {V : Type 0} {tells : Bool} {faults : V → ℕ} {left left_after taken between : Option (List ℕ)} {old new : Replay V} {result : Result ℕ Cause}
+    (reading : IsReading tells faults left left_after taken between old new result) (start : State) (told : IsTrue tells) (stands : Represents start old.core) (none : old.answers.items ≡ []) where
+  -- a reading and the line that tells how it ended make a replay
+  made : (meant last : End) (taken_after : Option (List ℕ)) → cause_of meant ≡ stop_of result
+      → TellsOf meant (summary_of (length reading.lines) start (events_in reading.lines) reading.given) → EndsWith meant last between taken_after
+      → RunsReplay start old.outlet (faults old.core.vault) (faults new.core.vault) left left_after taken taken_after new.answers.items new.core.hub.trail last
+  unfolding Said
+  made meant last taken_after same tells_it ending =
+      let session = session_carried tells faults (events_in reading.lines) reading.given old.core new.core start reading.carries told stands in
+      let after = stands_carried tells faults (events_in reading.lines) reading.given old.core new.core start reading.carries told stands in
+      let ends = subst (λ (c : Option Cause). EndsFor c reading.lines reading.rest left_after) (sym same) reading.ends in
+      let all = subst (λ (c : Option Cause). IsTold c (written_of old.outlet reading.given) reading.told) (sym same) reading.told_is in
+      let whole = subst (λ (c : Option Cause). WritesAnswers c reading.told reading.out) (sym same) reading.written in
+      record {
+        given = reading.given;
+        failures = reading.carries.failures;
+        out = reading.out ++ ending.out;
+        taken_is = ending.taken ∙ ap (λ (known : Option (List ℕ)). append_known known ending.out) reading.taken_is ∙ append_known-append taken reading.out ending.out;
+        replay = record {
+          lines = reading.lines;
+          rest = reading.rest;
+          reads = reading.reads;
+          taken = reading.each;
+          few = reading.few;
+          said = ending.said;
+          ends = ends_by meant ending.said reading.lines reading.rest left_after ending.cause ends;
+          session = session;
+          recorded = trail_carried (state_behind start (events_in reading.lines) reading.given) new.core after;
+          counted = tells_by meant ending.said (length reading.lines) start reading.given reading.lines ending.cause tells_it;
+          answered = reading.kept ∙ ap (λ (a : List Answer). a ++ kept_of old.outlet reading.given) none;
+          told = reading.told;
+          told_is = told_by meant ending.said (written_of old.outlet reading.given) reading.told ending.cause all;
+          text = reading.out;
+          answers_written = answers_by meant ending.said reading.told reading.out ending.cause whole;
+          ending = ending.out;
+          ending_written = ending.written;
+          written = refl;
+        };
+      }
+
+-- the source was read to its end, and this is what the last line tells
+pub runs_done : {V : Type 0} {tells : Bool} {faults : V → ℕ} {left left_after taken between : Option (List ℕ)} {old new : Replay V} (count : ℕ) (start : State) (last : End) (taken_after : Option (List ℕ))
+    → IsReading tells faults left left_after taken between old new (Ok count) → IsTrue tells → Represents start old.core → old.core.calls ≡ 0 → old.answers.items ≡ []
+    → EndsWith (end.Done (summary_in count new.core)) last between taken_after
+    → RunsReplay start old.outlet (faults old.core.vault) (faults new.core.vault) left left_after taken taken_after new.answers.items new.core.hub.trail last
+runs_done {V} {tells} {faults} {left} {left_after} {taken} {between} {old} {new} count start last taken_after reading told stands calls none ending =
+    made reading start told stands none (end.Done (summary_in count new.core)) last taken_after refl
+    (summary_carried tells faults reading.lines reading.given old.core new.core start count reading.carries told stands calls reading.few
+    ∙ ap (λ (n : ℕ). summary_of n start (events_in reading.lines) reading.given) (sym reading.counted)) ending
+
+-- the reading ended before
+pub runs_stopped : {V : Type 0} {tells : Bool} {faults : V → ℕ} {left left_after taken between : Option (List ℕ)} {old new : Replay V} (said : Cause) (start : State) (last : End) (taken_after : Option (List ℕ))
+    → IsReading tells faults left left_after taken between old new (Err said) → IsTrue tells → Represents start old.core → old.answers.items ≡ []
+    → EndsWith (end.Stopped said) last between taken_after
+    → RunsReplay start old.outlet (faults old.core.vault) (faults new.core.vault) left left_after taken taken_after new.answers.items new.core.hub.trail last
+runs_stopped said start last taken_after reading told stands none ending = made reading start told stands none (end.Stopped said) last taken_after refl tt ending
+
+no_answers_of : (test : Bool) → ◌≡◌ {A = List Answer} (cond test [] []) []
+no_answers_of true = refl
+no_answers_of false = refl
+
+-- nothing was read, and memory was short
+pub runs_unread : (start : State) (outlet : Outlet) (faults : ℕ) (left taken taken_after : Option (List ℕ)) (answers : List Answer) (items : List Item) (last : End) → EndsWith (end.Stopped cause.Memory) last taken taken_after
+    → answers ≡ [] → items ≡ start.shared.trail → RunsReplay start outlet faults faults left left taken taken_after answers items last
+unfolding Said
+runs_unread start outlet faults left taken taken_after answers items last ending no_answers same_items = record {
+  given = [];
+  failures = omega arith;
+  out = ending.out;
+  taken_is = ending.taken;
   replay = record {
-    lines = reading.lines;
-    rest = reading.rest;
-    reads = reading.reads;
-    taken = reading.each;
-    few = reading.few;
+    lines = [];
+    rest = left;
+    reads = refl;
+    taken = tt;
+    few = omega arith;
     said = ending.said;
-    ends = ends_by meant ending.said reading.lines reading.rest left_after ending.cause reading.ends;
-    session = session;
-    is = reading.is;
-    answered = refl;
-    recorded = refl;
-    told = reading.told;
-    told_is = told_by meant ending.said session.answers reading.told ending.cause reading.told_is;
-    text = reading.out;
-    answers_written = answers_by meant ending.said reading.told reading.out ending.cause reading.written;
+    ends = ends_by (end.Stopped cause.Memory) ending.said [] left left ending.cause (inl refl);
+    session = record { each = refl; outside_fits = refl; answers = refl };
+    recorded = same_items;
+    counted = tells_by (end.Stopped cause.Memory) ending.said 0 start [] [] ending.cause tt;
+    answered = no_answers ∙ sym (no_answers_of (keeps outlet));
+    told = [];
+    told_is = inl (no_answers_of (writes outlet));
+    text = [];
+    answers_written = answers_by (end.Stopped cause.Memory) ending.said [] [] ending.cause refl;
     ending = ending.out;
-    ending_written = ending_by meant ending.said last (summary_of count session) (summary_of (length reading.lines) session) ending.out
-        (λ done. ap (λ (n : ℕ). summary_of n session) (sym (reading.counted done))) ending.cause ending.written;
+    ending_written = ending.written;
     written = refl;
   };
 }
 
--- nothing was read, and memory was short
-pub replay_unread : (pages : ℕ) (left taken taken_after : Option (List ℕ)) (answers : List Answer) (items : List Item) (last : Cause) → EndsWith cause.Memory last unread_summary taken taken_after
-    → answers ≡ [] → items ≡ [] → RunsReplay pages left left taken taken_after answers items last
-replay_unread pages left taken taken_after answers items last ending no_answers no_items =
-    subst (λ (a : List Answer). RunsReplay pages left left taken taken_after a items last) (sym no_answers)
-    (subst (λ (i : List Item). RunsReplay pages left left taken taken_after [] i last) (sym no_items) (unread pages left taken taken_after last ending))
-  where
-    unread : (pages : ℕ) (left taken taken_after : Option (List ℕ)) (last : Cause) → EndsWith cause.Memory last unread_summary taken taken_after → RunsReplay pages left left taken taken_after [] [] last
-    unread pages left taken taken_after last ending = runs_replay pages 0 left left taken taken taken_after (at_start pages) cause.Memory last
-        (record {
-          lines = [];
-          rest = left;
-          reads = refl;
-          each = tt;
-          few = omega arith;
-          counted = λ done. refl;
-          ends = inl refl;
-          is = refl;
-          out = [];
-          taken_is = sym (append_known-nil taken);
-          told = [];
-          told_is = inl refl;
-          written = refl;
-        }) ending
+-- over a vault whose faults are never counted nothing failed
+never_failed : (count : ℕ) → RoseBy count 0 0 → count ≡ 0
+never_failed count rose = omega (arith, rose)
 
--- the same, by what the calls of a replay gave
-pub runs_replay_at : (pages count : ℕ) (told : Summary) (left left_after taken between taken_after : Option (List ℕ)) (session : Session) (answers : List Answer) (items : List Item) (meant last : Cause)
-    → IsReading pages left left_after taken between session meant count → EndsWith meant last told between taken_after
-    → told ≡ summary_of count session → answers ≡ session.answers → items ≡ trail_of session
-    → RunsReplay pages left left_after taken taken_after answers items last
-runs_replay_at pages count told left left_after taken between taken_after session answers items meant last reading ending same_summary same_answers same_items =
-    subst (λ (a : List Answer). RunsReplay pages left left_after taken taken_after a items last) (sym same_answers)
-    (subst (λ (i : List Item). RunsReplay pages left left_after taken taken_after session.answers i last) (sym same_items)
-    (runs_replay pages count left left_after taken between taken_after session meant last reading
-    (subst (λ (t : Summary). EndsWith meant last t between taken_after) same_summary ending)))
+pub runs_in_memory : (opening : Opening) (left left_after taken taken_after : Option (List ℕ)) (answers : List Answer) (items : List Item) (last : End)
+    → RunsReplay (start_of opening) outlet.Written 0 0 left left_after taken taken_after answers items last → RunsInMemory opening left left_after taken taken_after answers items last
+runs_in_memory opening left left_after taken taken_after answers items last run = record {
+  given = run.given;
+  unfailing = never_failed (failures_in run.given) run.failures;
+  out = run.out;
+  taken_is = run.taken_is;
+  replay = run.replay;
+}
 
 -- what was read and recorded is legal
-pub legal_reading : (pages count : ℕ) (left left_after taken between : Option (List ℕ)) (session : Session) (answers : List Answer) (items : List Item) (meant : Cause)
-    → IsReading pages left left_after taken between session meant count → answers ≡ session.answers → items ≡ trail_of session → IsLegalReplay pages left answers items
-legal_reading pages count left left_after taken between session answers items meant reading same_answers same_items =
-    let legal = sessions_are_legal pages reading.lines in record {
-      session = session;
-      ends = record { lines = reading.lines; rest = reading.rest; reads = reading.reads; is = reading.is; answered = same_answers; recorded = same_items };
-      legal = subst (λ (i : List Item). IsLegal (zero_pages pages) i) (sym (same_items ∙ ap trail_of reading.is)) legal.0;
-      whole = subst (λ (s : Session). IsLegal (zero_pages pages) (whole_of s.state)) (sym reading.is) legal.1;
+pub legal_in_memory : (opening : Opening) (faults faults_after : ℕ) (left left_after taken taken_after : Option (List ℕ)) (answers : List Answer) (items : List Item) (last : End)
+    → RunsReplay (start_of opening) outlet.Written faults faults_after left left_after taken taken_after answers items last → IsLegalInMemory opening left answers items
+legal_in_memory opening faults faults_after left left_after taken taken_after answers items last run =
+    let replay = run.replay in
+    let legal = sessions_are_legal (zero_vault opening.pages) opening.pages opening.entries opening.cache replay.lines run.given in
+    let all : ◌≡◌ {A = List Answer} run.given answers = sym replay.answered in
+    record {
+      lines = replay.lines;
+      rest = replay.rest;
+      reads = replay.reads;
+      session = subst (λ (a : List Answer). IsSession (start_of opening) (events_in replay.lines) a) all replay.session;
+      recorded = replay.recorded ∙ ap (trail_behind (start_of opening) (events_in replay.lines)) all;
+      legal = subst (λ (i : List Item). IsLegal (start_of opening).base i) (sym replay.recorded) legal.0;
+      whole = subst (λ (a : List Answer). IsLegal (start_of opening).base (whole_of (state_behind (start_of opening) (events_in replay.lines) a))) all legal.1;
     }
 
--- where nothing was read there is nothing to be legal
-pub legal_unread : (pages : ℕ) (left : Option (List ℕ)) (answers : List Answer) (items : List Item) → answers ≡ [] → items ≡ [] → IsLegalReplay pages left answers items
-legal_unread pages left answers items no_answers no_items =
-    let legal = sessions_are_legal pages [] in record {
-      session = at_start pages;
-      ends = record { lines = []; rest = left; reads = refl; is = refl; answered = no_answers; recorded = no_items };
-      legal = subst (λ (i : List Item). IsLegal (zero_pages pages) i) (sym no_items) legal.0;
-      whole = legal.1;
-    }
+-- the same, by what the calls of a replay gave
+pub runs_at : (start : State) (outlet outlet' : Outlet) (faults faults' after after' : ℕ) (left left_after taken taken_after : Option (List ℕ)) (answers answers' : List Answer) (items items' : List Item) (last : End)
+    → outlet ≡ outlet' → faults ≡ faults' → after ≡ after' → answers ≡ answers' → items ≡ items'
+    → RunsReplay start outlet faults after left left_after taken taken_after answers items last → RunsReplay start outlet' faults' after' left left_after taken taken_after answers' items' last
+runs_at start outlet outlet' faults faults' after after' left left_after taken taken_after answers answers' items items' last same_outlet same_faults same_after same_answers same_items run =
+    subst (λ (o : Outlet). RunsReplay start o faults' after' left left_after taken taken_after answers' items' last) same_outlet
+    (subst (λ (n : ℕ). RunsReplay start outlet n after' left left_after taken taken_after answers' items' last) same_faults
+    (subst (λ (n : ℕ). RunsReplay start outlet faults n left left_after taken taken_after answers' items' last) same_after
+    (subst (λ (a : List Answer). RunsReplay start outlet faults after left left_after taken taken_after a items' last) same_answers
+    (subst (λ (i : List Item). RunsReplay start outlet faults after left left_after taken taken_after answers i last) same_items run))))
+
+-- words are refused for no fault of the sink
+pub not_write : (refused : Cause) → (refused ≡ cause.Usage) ⊎ (refused ≡ cause.Unbuilt 0) → refused ≡ cause.Write → ⊥
+not_write refused why write = elim why [ inl usage ↦ cc | inr unbuilt ↦ cc ]
 
 -- words were refused
-pub refusal_of_ending : (refused : Cause) (left taken taken_after : Option (List ℕ)) (last : Cause) → EndsWith refused last unread_summary taken taken_after → RunsRefusal refused left left taken taken_after [] [] last
-refusal_of_ending refused left taken taken_after last ending = record {
-  out = ending.out;
-  taken_is = ending.taken;
-  refusal = record {
-    unread = refl;
-    answered = refl;
-    recorded = refl;
-    said = ending.said;
-    cause = elim ending.cause [ inl same ↦ inl same | inr memory ↦ inr memory.0 ];
-    written = ending.written;
-  };
-}
+pub runs_refusal : (refused : Cause) (left taken taken_after : Option (List ℕ)) (answers : List Answer) (items : List Item) (last : End) → EndsWith (end.Stopped refused) last taken taken_after
+    → answers ≡ [] → items ≡ [] → RunsRefusal refused left left taken taken_after answers items last
+runs_refusal refused left taken taken_after answers items last ending no_answers no_items = by_cause ending.cause
+  where
+    by_cause : (ending.said ≡ end.Stopped refused) ⊎ ((ending.said ≡ end.Stopped cause.Memory) × (end.Stopped refused ≢ end.Stopped cause.Write)) → RunsRefusal refused left left taken taken_after answers items last
+    by_cause (inl same) = record {
+      out = ending.out;
+      taken_is = ending.taken;
+      refusal = record {
+        unread = refl;
+        answered = no_answers;
+        recorded = no_items;
+        said = refused;
+        cause = inl refl;
+        written = subst (λ (e : End). WritesFor e last (end_line e) ending.out) same ending.written;
+      };
+    }
+    by_cause (inr memory) = record {
+      out = ending.out;
+      taken_is = ending.taken;
+      refusal = record {
+        unread = refl;
+        answered = no_answers;
+        recorded = no_items;
+        said = cause.Memory;
+        cause = inr refl;
+        written = subst (λ (e : End). WritesFor e last (end_line e) ending.out) memory.0 ending.written;
+      };
+    }
 
 end_told : (rest after : Option (List ℕ)) → WhereTold rest after (TakesEnd []) → IfSome after (λ left. left ≡ [])
 end_told None None h = tt
@@ -191,10 +272,73 @@ end_told None (Some after) h = absurd h
 end_told (Some rest) None h = absurd h
 end_told (Some rest) (Some after) h = h.rest
 
--- where the replay is done the source is at its end
-pub done_at_end : (pages : ℕ) (left left_after : Option (List ℕ)) (answers : List Answer) (items : List Item) (last : Cause) (out : List ℕ)
-    → IsReplay pages left left_after answers items last out → last ≡ cause.Done → IfSome left_after (λ bytes. bytes ≡ [])
-done_at_end pages left left_after answers items last out replay done = elim replay.ending_written [
-  | inl whole ↦ end_told replay.rest left_after (subst (λ (c : Cause). EndsFor c replay.lines replay.rest left_after) (sym whole.0 ∙ done) replay.ends)
-  | inr part ↦ (let no : cause.Done ≡ cause.Write = sym done ∙ part.0 in cc)
+-- where the source was read to its end, it is there
+pub done_at_end : {V : Type 0} {tells : Bool} {faults : V → ℕ} {left left_after taken between : Option (List ℕ)} {old new : Replay V} (count : ℕ)
+    → IsReading tells faults left left_after taken between old new (Ok count) → IfSome left_after (λ bytes. bytes ≡ [])
+done_at_end {V} {tells} {faults} {left} {left_after} count reading = end_told reading.rest left_after reading.ends
+
+-- only an audit that read the whole text means to be done
+pub audit_done : (found : Result Verdict AuditFault) (left left_after : Option (List ℕ)) → IsAudit left left_after found → IsDone (end_of_audit found) → IfSome left_after (λ bytes. bytes ≡ [])
+audit_done (Ok (verdict.Legal entries)) left left_after audit done = end_told audit.rest left_after audit.ends.1
+audit_done (Ok (verdict.FirstBad at rule)) left left_after audit done = absurd done
+audit_done (Err trail_fault.Memory) left left_after audit done = absurd done
+audit_done (Err trail_fault.Read) left left_after audit done = absurd done
+audit_done (Err (trail_fault.BadLine number)) left left_after audit done = absurd done
+
+pub audit_read : (found : Result Verdict AuditFault) → end_of_audit found ≡ end.Stopped cause.Read → found ≡ Err trail_fault.Read
+audit_read (Ok (verdict.Legal entries)) same = cc
+audit_read (Ok (verdict.FirstBad at rule)) same = cc
+audit_read (Err trail_fault.Memory) same = cc
+audit_read (Err trail_fault.Read) same = refl
+audit_read (Err (trail_fault.BadLine number)) same = cc
+
+pub audit_writes_not : (found : Result Verdict AuditFault) → end_of_audit found ≡ end.Stopped cause.Write → ⊥
+audit_writes_not (Ok (verdict.Legal entries)) same = cc
+audit_writes_not (Ok (verdict.FirstBad at rule)) same = cc
+audit_writes_not (Err trail_fault.Memory) same = cc
+audit_writes_not (Err trail_fault.Read) same = cc
+audit_writes_not (Err (trail_fault.BadLine number)) same = cc
+
+pub done_meant : (meant last : End) → (last ≡ meant) ⊎ (last ≡ end.Stopped cause.Write) ⊎ (last ≡ end.Stopped cause.Memory) → IsDone last → IsDone meant
+done_meant meant last ended done = elim ended [
+  | inl same ↦ subst IsDone same done
+  | inr other ↦ absurd (elim other [ inl write ↦ subst IsDone write done | inr memory ↦ subst IsDone memory done ])
 ]
+
+pub read_meant : (meant last : End) → (last ≡ meant) ⊎ (last ≡ end.Stopped cause.Write) ⊎ (last ≡ end.Stopped cause.Memory) → last ≡ end.Stopped cause.Read → meant ≡ end.Stopped cause.Read
+read_meant meant last ended read = elim ended [
+  | inl same ↦ sym same ∙ read
+  | inr other ↦ absurd (elim other [
+    | inl write ↦ (let no : end.Stopped cause.Write ≡ end.Stopped cause.Read = sym write ∙ read in cc)
+    | inr memory ↦ (let no : end.Stopped cause.Memory ≡ end.Stopped cause.Read = sym memory ∙ read in cc)
+  ])
+]
+
+-- an audit whose source failed ends so, unless the sink fails or memory is short
+pub audit_stands : (found : Result Verdict AuditFault) (last : End) (before after : ℕ) → (last ≡ end_of_audit found) ⊎ (last ≡ end.Stopped cause.Write) ⊎ (last ≡ end.Stopped cause.Memory)
+    → (found ≡ Err trail_fault.Read) ⊎ (after ≡ before)
+    → (last ≡ end.Stopped cause.Read) ⊎ (last ≡ end.Stopped cause.Write) ⊎ (last ≡ end.Stopped cause.Memory) ⊎ (after ≡ before)
+audit_stands found last before after ended stands = elim stands [
+  | inl failed ↦ elim ended [
+    | inl same ↦ inl (same ∙ ap end_of_audit failed)
+    | inr other ↦ inr (elim other [ inl write ↦ inl write | inr memory ↦ inr (inl memory) ])
+  ]
+  | inr same ↦ inr (inr (inr same))
+]
+
+-- an audit and the line that tells how it ended
+pub runs_audit : (found : Result Verdict AuditFault) (meant last : End) (left left_after taken taken_after : Option (List ℕ)) (answers : List Answer) (items : List Item)
+    → IsAudit left left_after found → meant ≡ end_of_audit found → EndsWith meant last taken taken_after → answers ≡ [] → items ≡ []
+    → RunsAudit left left_after taken taken_after answers items last
+runs_audit found meant last left left_after taken taken_after answers items audit same ending no_answers no_items = record {
+  found = found;
+  audit = audit;
+  ends = subst (λ (e : End). EndsWith e last taken taken_after) same ending;
+  answered = no_answers;
+  recorded = no_items;
+}
+
+-- how a call ended after all, by another name of how it meant to end
+pub end_by : (meant meant' last : End) → meant ≡ meant' → (last ≡ meant) ⊎ (last ≡ end.Stopped cause.Write) ⊎ (last ≡ end.Stopped cause.Memory)
+    → (last ≡ meant') ⊎ (last ≡ end.Stopped cause.Write) ⊎ (last ≡ end.Stopped cause.Memory)
+end_by meant meant' last same ended = subst (λ (e : End). (last ≡ e) ⊎ (last ≡ end.Stopped cause.Write) ⊎ (last ≡ end.Stopped cause.Memory)) same ended

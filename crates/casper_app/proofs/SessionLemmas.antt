@@ -1,55 +1,41 @@
-use Rattle.std.proofs.Common.{◌≡◌, ℕ, ◌+◌, Bool, true, false, List, [], ◌∷◌, ◌++◌, Option, Some, None, fold, refl, sym, ap, subst, ◌∙◌, append_assoc, zero-add, cond, arith}
+use Rattle.std.proofs.Common.{◌≡◌, ℕ, ◌+◌, Bool, true, false, List, [], ◌∷◌, Option, Some, None, refl, ap, subst, ◌∙◌, cond, arith, length}
 use Rattle.std.specs.List.{cons_option}
-use Rattle.std.specs.Prelude.{IsTrue}
-use Rattle.std.proofs.lemmas.List.{append-nil}
 use Rattle.std.specs.Option.{option_map_or}
-use Rattle.casper_trail.specs.Value.{zero_pages}
-use Rattle.casper_trail.specs.Legal.{IsLegal}
+use Rattle.casper_space.specs.declared.answer.Answer.{Answer}
 use Rattle.casper_text.specs.Line.{all_printable, words}
 use Rattle.casper_model.specs.declared.event.Event.{Event}
 use Rattle.casper_model.specs.declared.event.Event.TheVariants as event
-use Rattle.casper_model.specs.Outside.{NothingFailed}
-use Rattle.casper_model.specs.State.{State, zero_vault}
-use Rattle.casper_model.specs.Step.{step}
-use Rattle.casper_model.specs.Run.{state_after, answers_of, all_fit}
+use Rattle.casper_model.specs.Outside.{LoadFailed, NothingFailed}
+use Rattle.casper_model.specs.Run.{Happening, state_after, answers_of, is_disk}
 use Rattle.casper_model.specs.Rights.{NamesClients, AllNameClients}
-use Rattle.casper_model.specs.WholeHistory.{whole_of}
 use Rattle.casper_model.proofs.RunHistory.{every_run_legal}
 use Rattle.casper_model.proofs.WholeRuns.{every_run_whole}
+use Rattle.casper_core.specs.Stepping.{happenings_of, failures_in}
 use Rattle.casper_app.specs.declared.schedule.Parsed.TheVariants as parsed
 use Rattle.casper_app.specs.Schedule.{event_of, is_unbuilt, is_comment, refused_as, parsed_words, parsed_line}
 use Rattle.casper_app.specs.Grammar.{IsEvent}
-use Rattle.casper_app.specs.Lines.{event_asked, event_in, events_in}
-use Rattle.casper_app.specs.Session.{Session, at_start, after_event, zero_state, most_entries, most_held}
-use Rattle.casper_app.specs.Machine.{unfailing, calls_of, SessionsRunTheMachine, LinesNameClients, SessionsAreLegal}
+use Rattle.casper_app.specs.Lines.{event_of_parsed, event_of_line, events_in}
+use Rattle.casper_app.specs.Machine.{unfailing, UnfailingSessions, LinesNameClients, SessionsAreLegal}
 use Rattle.casper_app.proofs.GrammarLemmas.{events_have_one_text}
 
-state_from : (session : Session) (events : List Event) → (fold after_event session events).state ≡ state_after session.state (unfailing events)
-state_from session [] = refl
-state_from session (asked ∷ events) = state_from (after_event session asked) events
+-- where no answer tells of a fault, nothing failed
+none_failed : (events : List Event) (given : List Answer) → length given ≡ length events → failures_in given ≡ 0 → happenings_of events given ≡ unfailing events
+none_failed [] [] each none = refl
+none_failed [] (one ∷ given) each none = absurd (omega (arith, each))
+none_failed (asked ∷ events) [] each none = absurd (omega (arith, each))
+none_failed (asked ∷ events) (one ∷ given) each none = by_test (is_disk one) none (λ rest. none_failed events given (omega (arith, each)) rest)
+  where
+    by_test : (test : Bool) → cond test 1 0 + failures_in given ≡ 0 → (failures_in given ≡ 0 → happenings_of events given ≡ unfailing events)
+        → ◌≡◌ {A = List Happening} ((record { event = asked; outside = cond test LoadFailed NothingFailed }) ∷ happenings_of events given) (unfailing (asked ∷ events))
+    by_test true some following = absurd (omega (arith, some))
+    by_test false some following =
+        let first : Happening = record { event = asked; outside = NothingFailed } in
+        ap (λ (rest : List Happening). first ∷ rest) (following (omega (arith, some)))
 
-answers_from : (session : Session) (events : List Event) → (fold after_event session events).answers ≡ session.answers ++ answers_of session.state (unfailing events)
-answers_from session [] = sym (append-nil session.answers)
-answers_from session (asked ∷ events) =
-    answers_from (after_event session asked) events
-    ∙ append_assoc session.answers ((step session.state asked NothingFailed).answer ∷ []) (answers_of (step session.state asked NothingFailed).state (unfailing events))
-
-calls_from : (session : Session) (events : List Event) → (fold after_event session events).calls ≡ session.calls + calls_of events (answers_of session.state (unfailing events))
-calls_from session [] = omega arith
-calls_from session (asked ∷ events) = omega (arith, calls_from (after_event session asked) events)
-
--- where nothing failed there is nothing to tell of
-all_steps : (state : State) (events : List Event) → IsTrue (all_fit state (unfailing events))
-all_steps state [] = refl
-all_steps state (asked ∷ events) = all_steps (step state asked NothingFailed).state events
-
-pub sessions_run_the_machine : SessionsRunTheMachine
-sessions_run_the_machine pages events = record {
-  state = state_from (at_start pages) events;
-  answers = answers_from (at_start pages) events;
-  calls = calls_from (at_start pages) events ∙ zero-add (calls_of events (answers_of (zero_state pages) (unfailing events))) ∙ ap (calls_of events) (sym (answers_from (at_start pages) events));
-  steps = all_steps (zero_state pages) events;
-}
+pub unfailing_sessions : UnfailingSessions
+unfailing_sessions start events given session none =
+    let same : happenings_of events given ≡ unfailing events = none_failed events given session.each none in
+    (session.answers ∙ ap (answers_of start) same, ap (state_after start) same)
 
 -- what is known of an event, where there is one
 abbrev WhereAsked : (Event → Type 0) → Option Event → Type 0
@@ -72,41 +58,41 @@ client_named (event.Vanish who) is = absurd is
 client_named (event.Lose who) is = absurd is
 
 -- the event that a line asks for is one of a built line
-words_ask : (list : List (List ℕ)) → WhereAsked IsEvent (event_asked (parsed_words list))
+words_ask : (list : List (List ℕ)) → WhereAsked IsEvent (event_of_parsed (parsed_words list))
 words_ask [] = tt
 words_ask (first ∷ rest) = by_event (event_of (first ∷ rest)) (λ asked asks. (events_have_one_text (first ∷ rest) asked asks).0)
   where
-    by_test : (b : Bool) → WhereAsked IsEvent (event_asked (cond b parsed.Unbuilt parsed.Bad))
+    by_test : (b : Bool) → WhereAsked IsEvent (event_of_parsed (cond b parsed.Unbuilt parsed.Bad))
     by_test true = tt
     by_test false = tt
 
-    by_event : (found : Option Event) → ((asked : Event) → found ≡ Some asked → IsEvent asked) → WhereAsked IsEvent (event_asked (option_map_or (λ asked. parsed.Event asked) found (refused_as first)))
+    by_event : (found : Option Event) → ((asked : Event) → found ≡ Some asked → IsEvent asked) → WhereAsked IsEvent (event_of_parsed (option_map_or (λ asked. parsed.Event asked) found (refused_as first)))
     by_event None is = by_test (is_unbuilt first)
     by_event (Some asked) is = is asked refl
 
-line_asks : (line : List ℕ) → WhereAsked IsEvent (event_in line)
+line_asks : (line : List ℕ) → WhereAsked IsEvent (event_of_line line)
 line_asks line = by_tests (all_printable line) (is_comment line)
   where
-    by_tests : (printable comment : Bool) → WhereAsked IsEvent (event_asked (cond printable (cond comment parsed.Skip (parsed_words (words line))) parsed.Bad))
+    by_tests : (printable comment : Bool) → WhereAsked IsEvent (event_of_parsed (cond printable (cond comment parsed.Skip (parsed_words (words line))) parsed.Bad))
     by_tests true true = tt
     by_tests true false = words_ask (words line)
     by_tests false comment = tt
 
-pub event_of_line : (line : List ℕ) (asked : Event) → parsed_line line ≡ parsed.Event asked → IsEvent asked
-event_of_line line asked parses = subst (WhereAsked IsEvent) (ap event_asked parses) (line_asks line)
+pub named_by_line : (line : List ℕ) (asked : Event) → parsed_line line ≡ parsed.Event asked → IsEvent asked
+named_by_line line asked parses = subst (WhereAsked IsEvent) (ap event_of_parsed parses) (line_asks line)
 
 -- the events that lines ask for name clients
 pub lines_name_clients : LinesNameClients
-lines_name_clients [] = tt
-lines_name_clients (line ∷ lines) = by_event (event_in line) (line_asks line) (lines_name_clients lines)
+lines_name_clients lines [] = tt
+lines_name_clients [] (one ∷ given) = tt
+lines_name_clients (line ∷ lines) (one ∷ given) = by_event (event_of_line line) (line_asks line) (lines_name_clients lines)
   where
-    by_event : (asked : Option Event) → WhereAsked IsEvent asked → AllNameClients (unfailing (events_in lines)) → AllNameClients (unfailing (cons_option asked (events_in lines)))
-    by_event None is behind = behind
-    by_event (Some asked) is behind = (client_named asked is, behind)
+    by_event : (found : Option Event) → WhereAsked IsEvent found → ((rest : List Answer) → AllNameClients (happenings_of (events_in lines) rest)) → AllNameClients (happenings_of (cons_option found (events_in lines)) (one ∷ given))
+    by_event None is following = following (one ∷ given)
+    by_event (Some asked) is following = (client_named asked is, following given)
 
 pub sessions_are_legal : SessionsAreLegal
-sessions_are_legal pages lines =
-    let state = sym (state_from (at_start pages) (events_in lines)) in (
-      subst (λ (s : State). IsLegal (zero_pages pages) s.shared.trail) state (every_run_legal (zero_vault pages) pages most_entries most_held (unfailing (events_in lines)) (lines_name_clients lines)),
-      subst (λ (s : State). IsLegal (zero_pages pages) (whole_of s)) state (every_run_whole (zero_vault pages) pages most_entries most_held (unfailing (events_in lines)) (lines_name_clients lines)),
-    )
+sessions_are_legal vault pages limit capacity lines given = (
+  every_run_legal vault pages limit capacity (happenings_of (events_in lines) given) (lines_name_clients lines given),
+  every_run_whole vault pages limit capacity (happenings_of (events_in lines) given) (lines_name_clients lines given),
+)

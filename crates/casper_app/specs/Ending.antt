@@ -1,67 +1,121 @@
-use Rattle.std.specs.Prelude.{◌≡◌, ◌≢◌, ℕ, List, [], Option, ◌⊎◌, MatchResult}
+use Rattle.std.specs.Prelude.{◌≡◌, ◌≢◌, ℕ, List, [], Option, ◌⊎◌, Result, Ok, Err, MatchResult}
 use Rattle.std.specs.Io.KnownBytes.{append_known}
+use Rattle.casper_core.specs.Stepping.{RoseBy, failures_in}
+use Rattle.casper_audit.specs.declared.verdict.AuditFault.{AuditFault}
+use Rattle.casper_audit.specs.declared.verdict.AuditFault.TheVariants as fault
+use Rattle.casper_audit.specs.declared.verdict.Verdict.{Verdict}
+use Rattle.casper_audit.specs.declared.verdict.Verdict.TheVariants as verdict
+use Rattle.casper_audit.specs.Verdicts.{IsAudit}
+use Rattle.casper_io.specs.Reading.{ReadsLines}
 use Rattle.casper_trail.specs.declared.item.Item.{Item}
-use Rattle.casper_trail.specs.Value.{zero_pages}
 use Rattle.casper_trail.specs.Legal.{IsLegal}
+use Rattle.casper_trail.specs.Value.{zero_pages}
+use Rattle.casper_model.specs.State.{State, zero_start}
 use Rattle.casper_model.specs.WholeHistory.{whole_of}
 use Rattle.casper_space.specs.declared.answer.Answer.{Answer}
 use Rattle.casper_app.specs.declared.cause.Cause.{Cause}
 use Rattle.casper_app.specs.declared.cause.Cause.TheVariants as cause
-use Rattle.casper_app.specs.Command.{asked}
-use Rattle.casper_app.specs.declared.summary.Summary.{Summary}
+use Rattle.casper_app.specs.declared.command.Command.{Command}
+use Rattle.casper_app.specs.declared.command.Command.TheVariants as command
+use Rattle.casper_app.specs.declared.command.Opening.{Opening}
+use Rattle.casper_app.specs.declared.end.End.{End}
+use Rattle.casper_app.specs.declared.end.End.TheVariants as end
+use Rattle.casper_app.specs.declared.outlet.Outlet.{Outlet}
+use Rattle.casper_app.specs.declared.outlet.Outlet.TheVariants as outlet
+use Rattle.casper_app.specs.Command.{command_of}
 use Rattle.casper_app.specs.Lines.{events_in}
-use Rattle.casper_app.specs.Session.{Session, session_after, trail_of}
-use Rattle.casper_app.specs.Replay.{ReadsLines, IsReplay, IsRefusal, WritesFor, ending_line}
+use Rattle.casper_app.specs.Session.{IsSession, state_behind, trail_behind}
+use Rattle.casper_app.specs.Replay.{IsReplay, IsRefusal, WritesFor}
+use Rattle.casper_app.specs.Texts.{end_line}
 
--- a last text was written for a cause
-pub record WritesLast (said last : Cause) (text : List ℕ) (before after : Option (List ℕ)) : Type 0 where
+-- a last text was written for an end
+pub record WritesLast (said last : End) (text : List ℕ) (before after : Option (List ℕ)) : Type 0 where
   pub out : List ℕ
   pub taken : after ≡ append_known before out
   pub written : WritesFor said last text out
 
 -- the line that tells how a call ended was written for what it meant to say, or for want of memory
-pub record EndsWith (meant last : Cause) (summary : Summary) (before after : Option (List ℕ)) : Type 0 where
-  pub said : Cause
-  pub cause : (said ≡ meant) ⊎ ((said ≡ cause.Memory) × (meant ≢ cause.Write))
+pub record EndsWith (meant last : End) (before after : Option (List ℕ)) : Type 0 where
+  pub said : End
+  pub cause : (said ≡ meant) ⊎ ((said ≡ end.Stopped cause.Memory) × (meant ≢ end.Stopped cause.Write))
   pub out : List ℕ
   pub taken : after ≡ append_known before out
-  pub written : WritesFor said last (ending_line said summary) out
+  pub written : WritesFor said last (end_line said) out
 
--- a replay over so many zero pages wrote this
-pub record RunsReplay (pages : ℕ) (left left_after taken taken_after : Option (List ℕ)) (answers : List Answer) (items : List Item) (last : Cause) : Type 0 where
+-- a call that was done
+abbrev pub IsDone : End → Type 0
+IsDone (end.Done summary) = Unit {0}
+IsDone (end.Legal entries) = Unit {0}
+IsDone (end.Stopped cause) = ⊥
+
+-- a replay from a start wrote this, and as many steps failed by the outside, at most, as the count of the vault's faults tells
+pub record RunsReplay (start : State) (outlet : Outlet) (faults faults_after : ℕ) (left left_after taken taken_after : Option (List ℕ)) (answers : List Answer) (items : List Item) (last : End) : Type 0 where
+  pub given : List Answer
+  pub failures : RoseBy (failures_in given) faults faults_after
   pub out : List ℕ
   pub taken_is : taken_after ≡ append_known taken out
-  pub replay : IsReplay pages left left_after answers items last out
+  pub replay : IsReplay start outlet left left_after given answers items last out
+
+-- a session over a store in memory as its opening says begins here
+abbrev pub start_of : Opening → State
+start_of opening = zero_start opening.pages opening.entries opening.cache
+
+-- a replay over a store in memory wrote this, and nothing failed by the outside
+pub record RunsInMemory (opening : Opening) (left left_after taken taken_after : Option (List ℕ)) (answers : List Answer) (items : List Item) (last : End) : Type 0 where
+  pub given : List Answer
+  pub unfailing : failures_in given ≡ 0
+  pub out : List ℕ
+  pub taken_is : taken_after ≡ append_known taken out
+  pub replay : IsReplay (start_of opening) outlet.Written left left_after given answers items last out
 
 -- the words were refused, and this was written
-pub record RunsRefusal (refused : Cause) (left left_after taken taken_after : Option (List ℕ)) (answers : List Answer) (items : List Item) (last : Cause) : Type 0 where
+pub record RunsRefusal (refused : Cause) (left left_after taken taken_after : Option (List ℕ)) (answers : List Answer) (items : List Item) (last : End) : Type 0 where
   pub out : List ℕ
   pub taken_is : taken_after ≡ append_known taken out
   pub refusal : IsRefusal refused left left_after answers items last out
 
--- a call of `run`: what was read, answered, recorded and written, as its words ask
-abbrev pub IsRun : List (List ℕ) → Option (List ℕ) → Option (List ℕ) → Option (List ℕ) → Option (List ℕ) → List Answer → List Item → Cause → Type 0
-IsRun words left left_after taken taken_after answers items last = MatchResult (asked words)
-    (λ pages. RunsReplay pages left left_after taken taken_after answers items last)
+-- how an audit means to end
+abbrev pub end_of_audit : Result Verdict AuditFault → End
+end_of_audit (Ok (verdict.Legal entries)) = end.Legal entries
+end_of_audit (Ok (verdict.FirstBad at rule)) = end.Stopped (cause.Illegal at rule)
+end_of_audit (Err fault.Memory) = end.Stopped cause.Memory
+end_of_audit (Err fault.Read) = end.Stopped cause.Read
+end_of_audit (Err (fault.BadLine number)) = end.Stopped (cause.BadLine number)
+
+-- the text of a trail was audited, and what it was found to be was written: nothing was answered or recorded
+pub record RunsAudit (left left_after taken taken_after : Option (List ℕ)) (answers : List Answer) (items : List Item) (last : End) : Type 0 where
+  pub found : Result Verdict AuditFault
+  pub audit : IsAudit left left_after found
+  pub ends : EndsWith (end_of_audit found) last taken taken_after
+  pub answered : answers ≡ []
+  pub recorded : items ≡ []
+
+-- what a command does: what was read, answered, recorded and written
+abbrev pub RunsCommand : Command → Option (List ℕ) → Option (List ℕ) → Option (List ℕ) → Option (List ℕ) → List Answer → List Item → End → Type 0
+RunsCommand (command.Replay opening) left left_after taken taken_after answers items last = RunsInMemory opening left left_after taken taken_after answers items last
+RunsCommand command.Audit left left_after taken taken_after answers items last = RunsAudit left left_after taken taken_after answers items last
+
+-- a call of `run` does what its words ask
+abbrev pub IsRun : List (List ℕ) → Option (List ℕ) → Option (List ℕ) → Option (List ℕ) → Option (List ℕ) → List Answer → List Item → End → Type 0
+IsRun words left left_after taken taken_after answers items last = MatchResult (command_of words)
+    (λ command. RunsCommand command left left_after taken taken_after answers items last)
     (λ refused. RunsRefusal refused left left_after taken taken_after answers items last)
 
--- a replay ended in a session: the answers and the trail are those of the events that lines at the front of the source ask for
-pub record EndsIn (session : Session) (pages : ℕ) (left : Option (List ℕ)) (answers : List Answer) (items : List Item) : Type 0 where
+-- a replay over a store in memory ended in a session: the answers and the trail are those of the events that lines at the front of
+-- the source ask for. The trail is legal over the zero pages, and so is the whole history: the trail, and then the calls that are pending
+pub record IsLegalInMemory (opening : Opening) (left : Option (List ℕ)) (answers : List Answer) (items : List Item) : Type 0 where
   pub lines : List (List ℕ)
   pub rest : Option (List ℕ)
   pub reads : ReadsLines left lines rest
-  pub is : session ≡ session_after pages (events_in lines)
-  pub answered : answers ≡ session.answers
-  pub recorded : items ≡ trail_of session
+  pub session : IsSession (start_of opening) (events_in lines) answers
+  pub recorded : items ≡ trail_behind (start_of opening) (events_in lines) answers
+  pub legal : IsLegal (zero_pages opening.pages) items
+  pub whole : IsLegal (zero_pages opening.pages) (whole_of (state_behind (start_of opening) (events_in lines) answers))
 
--- the trail of a replay is legal over its zero pages, and so is the whole history of the session that it ended in: the
--- trail, and behind it the calls that are pending
-pub record IsLegalReplay (pages : ℕ) (left : Option (List ℕ)) (answers : List Answer) (items : List Item) : Type 0 where
-  pub session : Session
-  pub ends : EndsIn session pages left answers items
-  pub legal : IsLegal (zero_pages pages) items
-  pub whole : IsLegal (zero_pages pages) (whole_of session.state)
+abbrev pub IsLegalCommand : Command → Option (List ℕ) → List Answer → List Item → Type 0
+IsLegalCommand (command.Replay opening) left answers items = IsLegalInMemory opening left answers items
+IsLegalCommand command.Audit left answers items = items ≡ []
 
 -- a replay is legal over the zero pages that the words ask for, and the trail is empty where the words are refused
 abbrev pub IsLegalRun : List (List ℕ) → Option (List ℕ) → List Answer → List Item → Type 0
-IsLegalRun words left answers items = MatchResult (asked words) (λ pages. IsLegalReplay pages left answers items) (λ refused. items ≡ [])
+IsLegalRun words left answers items = MatchResult (command_of words) (λ command. IsLegalCommand command left answers items) (λ refused. items ≡ [])

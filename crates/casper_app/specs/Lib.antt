@@ -1,10 +1,11 @@
-pub mod At
+pub mod Carrying
 pub mod Command
 pub mod Ending
 pub mod Grammar
 pub mod LineLaws
 pub mod Lines
 pub mod Machine
+pub mod Outlet
 pub mod Reading
 pub mod Replay
 pub mod Schedule

@@ -4,7 +4,7 @@ use Rattle.casper_words.specs.Crew.{IsClient}
 use Rattle.casper_text.specs.Line.{IsPrintable, words}
 use Rattle.casper_model.specs.declared.event.Event.{Event}
 use Rattle.casper_app.specs.declared.schedule.Parsed.TheVariants as parsed
-use Rattle.casper_app.specs.Command.{asked}
+use Rattle.casper_app.specs.Command.{command_of, replay_of_pages}
 use Rattle.casper_app.specs.Grammar.{words_of_event, IsEvent}
 use Rattle.casper_app.specs.Schedule.{unbuilt_verbs, parsed_line}
 
@@ -53,4 +53,4 @@ words_of_replay pages = codes "replay" ∷ (codes "mem:" ++ decimal pages) ∷ [
 -- these words, and no others, ask for a replay over so many pages, from 1 to 16,384
 abbrev pub ReplaysHaveOneText : Type 0
 ReplaysHaveOneText = (list : List (List ℕ)) (pages : ℕ)
-    → (asked list ≡ Ok pages) ↔ ((1 ≤ pages) × (pages ≤ 16384) × (list ≡ words_of_replay pages))
+    → (command_of list ≡ Ok (replay_of_pages pages)) ↔ ((1 ≤ pages) × (pages ≤ 16384) × (list ≡ words_of_replay pages))

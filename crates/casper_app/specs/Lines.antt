@@ -5,19 +5,19 @@ use Rattle.casper_app.specs.declared.schedule.Parsed.TheVariants as parsed
 use Rattle.casper_app.specs.Schedule.{parsed_line}
 
 -- the event of what was read
-abbrev pub event_asked : Parsed → Option Event
-event_asked parsed.Skip = None
-event_asked (parsed.Event asked) = Some asked
-event_asked parsed.Unbuilt = None
-event_asked parsed.Bad = None
+abbrev pub event_of_parsed : Parsed → Option Event
+event_of_parsed parsed.Skip = None
+event_of_parsed (parsed.Event asked) = Some asked
+event_of_parsed parsed.Unbuilt = None
+event_of_parsed parsed.Bad = None
 
 -- the event that a line asks for
-abbrev pub event_in : List ℕ → Option Event
-event_in line = event_asked (parsed_line line)
+abbrev pub event_of_line : List ℕ → Option Event
+event_of_line line = event_of_parsed (parsed_line line)
 
 -- the events that lines ask for, in order
 abbrev pub events_in : List (List ℕ) → List Event
-events_in lines = filter_map event_in lines
+events_in lines = filter_map event_of_line lines
 
 -- what was read is skipped or answered
 abbrev pub IsTakenAs : Parsed → Type 0

@@ -1,49 +1,42 @@
-use Rattle.std.specs.Prelude.{◌≡◌, ◌==◌, ◌&&◌, ◌||◌, not, Bool, true, false, ℕ, ◌+◌, List, [], ◌∷◌, ◌++◌, map, IsTrue}
+use Rattle.std.specs.Prelude.{◌≡◌, ◌==◌, ◌&&◌, ◌||◌, not, Bool, true, false, ℕ, List, [], ◌∷◌, ◌++◌, map}
 use Rattle.casper_words.specs.declared.call.Call.{Call}
-use Rattle.casper_trail.specs.Value.{zero_pages}
 use Rattle.casper_trail.specs.Legal.{IsLegal}
 use Rattle.casper_space.specs.declared.answer.Answer.{Answer}
 use Rattle.casper_model.specs.declared.event.Event.{Event}
 use Rattle.casper_model.specs.declared.event.Event.TheVariants as event
 use Rattle.casper_model.specs.Outside.{NothingFailed}
-use Rattle.casper_model.specs.Run.{Happening, state_after, answers_of, all_fit}
+use Rattle.casper_model.specs.Run.{Happening, state_after, answers_of}
 use Rattle.casper_model.specs.Rights.{AllNameClients}
+use Rattle.casper_model.specs.State.{State, start}
+use Rattle.casper_model.specs.Vault.{VaultState}
 use Rattle.casper_model.specs.WholeHistory.{whole_of}
+use Rattle.casper_core.specs.Stepping.{happenings_of, failures_in}
 use Rattle.casper_laws.specs.HeldWordSteps.{is_turn_of}
 use Rattle.casper_laws.specs.OwnLists.{own_list_of, completed_calls, is_rolled_back}
-use Rattle.casper_app.specs.Session.{session_after, zero_state, calls_in, trail_of}
 use Rattle.casper_app.specs.Lines.{events_in}
+use Rattle.casper_app.specs.Session.{IsSession, state_behind, trail_behind}
 
 -- events in whose steps nothing failed
 abbrev pub unfailing : List Event → List Happening
 unfailing events = map (λ asked. record { event = asked; outside = NothingFailed }) events
 
--- how many reads and writes are completed by events that are so answered
-abbrev pub calls_of : List Event → List Answer → ℕ
-calls_of [] answers = 0
-calls_of (asked ∷ events) [] = 0
-calls_of (asked ∷ events) (given ∷ answers) = calls_in asked given + calls_of events answers
-
--- a session is a run of the machine, step by step: its state, its answers, and how many reads and writes completed
-pub record IsRunOfTheMachine (pages : ℕ) (events : List Event) : Type 0 where
-  pub state : (session_after pages events).state ≡ state_after (zero_state pages) (unfailing events)
-  pub answers : (session_after pages events).answers ≡ answers_of (zero_state pages) (unfailing events)
-  pub calls : (session_after pages events).calls ≡ calls_of events (session_after pages events).answers
-  pub steps : IsTrue (all_fit (zero_state pages) (unfailing events))
-
-abbrev pub SessionsRunTheMachine : Type 0
-SessionsRunTheMachine = (pages : ℕ) (events : List Event) → IsRunOfTheMachine pages events
+-- where no answer of a session tells of a fault, its answers and its state are those of the machine when nothing fails
+abbrev pub UnfailingSessions : Type 0
+UnfailingSessions =
+    (start : State) (events : List Event) (given : List Answer) → IsSession start events given → failures_in given ≡ 0
+    → (given ≡ answers_of start (unfailing events)) × (state_behind start events given ≡ state_after start (unfailing events))
 
 -- the events that lines ask for name clients
 abbrev pub LinesNameClients : Type 0
-LinesNameClients = (lines : List (List ℕ)) → AllNameClients (unfailing (events_in lines))
+LinesNameClients = (lines : List (List ℕ)) (given : List Answer) → AllNameClients (happenings_of (events_in lines) given)
 
--- the trail of every session of lines is legal over the zero pages, and so is the whole history: the trail, and behind it
--- the calls that are pending
+-- over every vault the trail of every session of lines is legal, and so is the whole history: the trail, and then the calls that are
+-- pending
 abbrev pub SessionsAreLegal : Type 0
 SessionsAreLegal =
-    (pages : ℕ) (lines : List (List ℕ)) → IsLegal (zero_pages pages) (trail_of (session_after pages (events_in lines)))
-    × IsLegal (zero_pages pages) (whole_of (session_after pages (events_in lines)).state)
+    (vault : VaultState) (pages limit capacity : ℕ) (lines : List (List ℕ)) (given : List Answer)
+    → IsLegal vault.image (trail_behind (start vault pages limit capacity) (events_in lines) given)
+    × IsLegal vault.image (whole_of (state_behind (start vault pages limit capacity) (events_in lines) given))
 
 -- the calls of a client that events so answered complete, in the order of the answers
 abbrev pub calls_answered : List Event → List Answer → ℕ → List Call
@@ -70,5 +63,6 @@ none_dropped (asked ∷ events) (given ∷ answers) client = not (may_drop asked
 -- answered that it was rolled back, or it vanishes
 abbrev pub SessionsKeepCalls : Type 0
 SessionsKeepCalls =
-    (pages : ℕ) (lines : List (List ℕ)) (who : ℕ) → none_dropped (events_in lines) (session_after pages (events_in lines)).answers who ≡ true
-    → own_list_of (session_after pages (events_in lines)).state who ≡ calls_answered (events_in lines) (session_after pages (events_in lines)).answers who
+    (vault : VaultState) (pages limit capacity : ℕ) (lines : List (List ℕ)) (given : List Answer) (who : ℕ)
+    → IsSession (start vault pages limit capacity) (events_in lines) given → none_dropped (events_in lines) given who ≡ true
+    → own_list_of (state_behind (start vault pages limit capacity) (events_in lines) given) who ≡ calls_answered (events_in lines) given who

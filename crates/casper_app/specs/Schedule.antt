@@ -25,7 +25,7 @@ abbrev pub lone_client : List (List ℕ) → Option ℕ
 lone_client (client ∷ []) = client_of client
 lone_client _ = None
 
--- the right that stands behind a colon: `r` to read, `w` to write
+-- the right that stands after a colon: `r` to read, `w` to write
 abbrev pub right_of : List ℕ → Option Right
 right_of (byte ∷ []) = if byte == 114 then Some may.Read else (if byte == 119 then Some may.Write else None)
 right_of _ = None
@@ -67,38 +67,38 @@ rising_wants wants = if are_wants wants then Some wants else None
 abbrev pub wants_of : List (List ℕ) → Option (List Want)
 wants_of words = option_and_then rising_wants (each_want words)
 
--- what stands behind `join`: a client
+-- what stands after `join`: a client
 abbrev pub join_of : List (List ℕ) → Option Event
 join_of rest = option_map (λ who. event.Join who) (lone_client rest)
 
--- what stands behind `read`: a client, a page and a word
+-- what stands after `read`: a client, a page and a word
 abbrev pub read_of : List (List ℕ) → Option Event
 read_of (client ∷ page ∷ word ∷ []) =
     option_and_then (λ who. option_and_then (λ p. option_map (λ w. event.Read who p w) (place_of word)) (place_of page)) (client_of client)
 read_of _ = None
 
--- what stands behind `write`: a client, a page, a word and a value
+-- what stands after `write`: a client, a page, a word and a value
 abbrev pub write_of : List (List ℕ) → Option Event
 write_of (client ∷ page ∷ word ∷ value ∷ []) =
     option_and_then (λ who. option_and_then (λ p. option_and_then (λ w. option_map (λ v. event.Write who p w v) (number_of value)) (place_of word)) (place_of page)) (client_of client)
 write_of _ = None
 
--- what stands behind `acquire`: a client, and one to four wants with pages strictly rising
+-- what stands after `acquire`: a client, and one to four wants with pages strictly rising
 abbrev pub acquire_of : List (List ℕ) → Option Event
 acquire_of [] = None
 acquire_of (client ∷ wanted) = option_and_then (λ who. option_map (λ wants. event.Acquire who wants) (wants_of wanted)) (client_of client)
 
--- what stands behind `serve`: a client
+-- what stands after `serve`: a client
 abbrev pub serve_of : List (List ℕ) → Option Event
 serve_of rest = option_map (λ who. event.Serve who) (lone_client rest)
 
--- what stands behind `depart`: a client
+-- what stands after `depart`: a client
 abbrev pub depart_of : List (List ℕ) → Option Event
 depart_of rest = option_map (λ who. event.Depart who) (lone_client rest)
 
--- the event that a verb and the words behind it ask for
-abbrev pub event_by : List ℕ → List (List ℕ) → Option Event
-event_by verb rest =
+-- the event that a verb and the words after it ask for
+abbrev pub event_of_verb : List ℕ → List (List ℕ) → Option Event
+event_of_verb verb rest =
     if bytes_eq verb (codes "join") then join_of rest else
     (if bytes_eq verb (codes "read") then read_of rest else
     (if bytes_eq verb (codes "write") then write_of rest else
@@ -109,7 +109,7 @@ event_by verb rest =
 -- the event that the words of a line ask for
 abbrev pub event_of : List (List ℕ) → Option Event
 event_of [] = None
-event_of (verb ∷ rest) = event_by verb rest
+event_of (verb ∷ rest) = event_of_verb verb rest
 
 -- the first words of the lines that are not built yet, but for client numbers
 abbrev pub unbuilt_verbs : List (List ℕ)

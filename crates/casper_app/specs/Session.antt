@@ -1,61 +1,32 @@
-use Rattle.std.specs.Prelude.{ℕ, ◌+◌, List, [], ◌∷◌, ◌++◌, if◌then◌else◌, fold}
+use Rattle.std.specs.Prelude.{◌≡◌, ℕ, List, IsTrue, length}
 use Rattle.casper_trail.specs.declared.item.Item.{Item}
 use Rattle.casper_trail.specs.TrailView.{commit_count, rollback_count}
 use Rattle.casper_space.specs.declared.answer.Answer.{Answer}
+use Rattle.casper_report.specs.declared.summary.Summary.{Summary}
 use Rattle.casper_model.specs.declared.event.Event.{Event}
-use Rattle.casper_model.specs.Outside.{NothingFailed}
-use Rattle.casper_model.specs.State.{State, zero_start}
-use Rattle.casper_model.specs.Step.{step}
-use Rattle.casper_core.specs.Stepping.{completes}
-use Rattle.casper_app.specs.declared.summary.Summary.{Summary}
+use Rattle.casper_model.specs.Run.{all_fit, answers_of, state_after}
+use Rattle.casper_model.specs.State.{State}
+use Rattle.casper_core.specs.Stepping.{happenings_of, completed_in}
 
--- what stands between two events: the state of the machine, the answers so far, and how many reads and writes completed
-pub record Session : Type 0 where
-  pub state : State
-  pub answers : List Answer
-  pub calls : ℕ
+-- events, each of them answered: from this start the machine answers them so, where the outside did what the answers tell
+pub record IsSession (start : State) (events : List Event) (given : List Answer) : Type 0 where
+  pub each : length given ≡ length events
+  pub outside_fits : IsTrue (all_fit start (happenings_of events given))
+  pub answers : given ≡ answers_of start (happenings_of events given)
 
--- the greatest number of entries of one trail
-abbrev pub most_entries : ℕ
-most_entries = 4194304
+-- the state after events that were so answered, and its trail
+abbrev pub state_behind : State → List Event → List Answer → State
+state_behind start events given = state_after start (happenings_of events given)
 
--- the greatest number of pages that a client may hold
-abbrev pub most_held : ℕ
-most_held = 64
+abbrev pub trail_behind : State → List Event → List Answer → List Item
+trail_behind start events given = (state_behind start events given).shared.trail
 
--- the state before any event, over a store of so many zero pages
-abbrev pub zero_state : ℕ → State
-zero_state pages = zero_start pages most_entries most_held
-
--- what stands before any event
-abbrev pub at_start : ℕ → Session
-at_start pages = record { state = zero_state pages; answers = []; calls = 0 }
-
--- how many reads and writes an event completes that is so answered: one or none
-abbrev pub calls_in : Event → Answer → ℕ
-calls_in asked given = if completes asked given then 1 else 0
-
--- what stands after an event in whose step nothing failed
-abbrev pub after_event : Session → Event → Session
-after_event session asked = let turn = step session.state asked NothingFailed in record {
-  state = turn.state;
-  answers = session.answers ++ turn.answer ∷ [];
-  calls = session.calls + calls_in asked turn.answer;
-}
-
--- what stands after events
-abbrev pub session_after : ℕ → List Event → Session
-session_after pages events = fold after_event (at_start pages) events
-
-abbrev pub trail_of : Session → List Item
-trail_of session = session.state.shared.trail
-
--- what the last line tells of a session behind so many lines
-abbrev pub summary_of : ℕ → Session → Summary
-summary_of lines session = record {
+-- what the last line tells of events that were so answered, after so many lines
+abbrev pub summary_of : ℕ → State → List Event → List Answer → Summary
+summary_of lines start events given = record {
   lines = lines;
-  calls = session.calls;
-  commits = commit_count (trail_of session);
-  rollbacks = rollback_count (trail_of session);
-  version = session.state.vault.version;
+  calls = completed_in events given;
+  commits = commit_count (trail_behind start events given);
+  rollbacks = rollback_count (trail_behind start events given);
+  version = (state_behind start events given).vault.version;
 }

@@ -1,70 +1,77 @@
-use Rattle.std.specs.Prelude.{◌≡◌, ℕ, List, [], ◌∷◌, ◌⊎◌, Option, Some, Result, Ok, Err}
-use Rattle.std.specs.Option.{option_map_or}
+use Rattle.std.specs.Prelude.{◌≡◌, ℕ, Bool, List, [], ◌∷◌, ◌++◌, Option, None, Some, Result, Ok, Err, is_some, IsSome, option_to_list}
 use Rattle.std.specs.Io.KnownBytes.{append_known}
-use Rattle.casper_io.specs.Lines.{TakesEnd, TakesTooLong, TakesPart}
+use Rattle.casper_io.specs.Lines.{TakesTooLong, TakesPart}
 use Rattle.casper_io.specs.Told.{WhereTold, TakesFront}
 use Rattle.casper_space.specs.declared.answer.Answer.{Answer}
+use Rattle.casper_model.specs.declared.event.Event.{Event}
+use Rattle.casper_core.specs.CoreView.{CoreView}
+use Rattle.casper_report.specs.Texts.{answer_line, answer_lines}
 use Rattle.casper_app.specs.declared.cause.Cause.{Cause}
 use Rattle.casper_app.specs.declared.cause.Cause.TheVariants as cause
-use Rattle.casper_model.specs.declared.event.Event.{Event}
-use Rattle.casper_model.specs.Outside.{NothingFailed}
-use Rattle.casper_model.specs.Step.{step}
+use Rattle.casper_app.specs.declared.outlet.Outlet.{Outlet}
+use Rattle.casper_app.specs.declared.replay.Replay.{Replay}
 use Rattle.casper_app.specs.declared.schedule.Parsed.TheVariants as parsed
 use Rattle.casper_app.specs.Schedule.{parsed_line}
-use Rattle.casper_app.specs.Session.{Session, after_event}
-use Rattle.casper_app.specs.Lines.{event_in, IsTaken}
-use Rattle.casper_app.specs.Texts.{answer_line, answer_lines}
+use Rattle.casper_app.specs.Carrying.{MakesStep, MakesNone}
+use Rattle.casper_app.specs.Lines.{event_of_line, IsTaken}
+use Rattle.casper_app.specs.Outlet.{kept_of, written_of}
 
--- the answer to an event in a session
-abbrev pub answer_in : Session → Event → Answer
-answer_in session asked = (step session.state asked NothingFailed).answer
+-- what an event did to a core, where it was answered, and where it was not
+abbrev pub CarriesEvent : {V : Type 0} → Bool → (V → ℕ) → Event → Option Answer → CoreView V → CoreView V → Type 0
+CarriesEvent tells faults asked None before after = MakesNone tells faults before after
+CarriesEvent tells faults asked (Some given) before after = MakesStep tells faults asked given before after
 
--- what stands after a line, and the answers to it: one or none
-abbrev pub after_line : Session → List ℕ → Session
-after_line session line = option_map_or (after_event session) (event_in line) session
+-- what a line did to a core: the event that it asks for was answered, or nothing was
+abbrev pub CarriesLine : {V : Type 0} → Bool → (V → ℕ) → List ℕ → Option Answer → CoreView V → CoreView V → Type 0
+CarriesLine tells faults line None before after = MakesNone tells faults before after
+CarriesLine tells faults line (Some given) before after = (asked : Event) × (event_of_line line ≡ Some asked) × MakesStep tells faults asked given before after
 
-abbrev pub answers_in : Session → List ℕ → List Answer
-answers_in session line = option_map_or (λ asked. answer_in session asked ∷ []) (event_in line) []
+-- what was written of the answer to an event: all of it; a front of it, where the sink failed; or nothing, where memory was short
+abbrev pub WritesAnswer : Outlet → Option Answer → Option (List ℕ) → Option (List ℕ) → Result (Unit {0}) Cause → Type 0
+WritesAnswer outlet given before after (Ok done) = IsSome given × (after ≡ append_known before (answer_lines (written_of outlet (option_to_list given))))
+WritesAnswer outlet given before after (Err cause.Write) = (one : Answer) × (given ≡ Some one) × (written_of outlet (one ∷ []) ≡ one ∷ []) × TakesFront before after (answer_line one)
+WritesAnswer outlet given before after (Err cause.Memory) = after ≡ before
+WritesAnswer outlet given before after (Err cause.Usage) = ⊥
+WritesAnswer outlet given before after (Err cause.Read) = ⊥
+WritesAnswer outlet given before after (Err (cause.BadLine n)) = ⊥
+WritesAnswer outlet given before after (Err (cause.Illegal at rule)) = ⊥
+WritesAnswer outlet given before after (Err (cause.Unbuilt n)) = ⊥
 
--- an event was answered whole; or in part, where the sink failed; or, where memory was short, nothing changed, or the event was
--- carried out and its answer kept, and nothing of its text was written
-abbrev pub TakesEvent : Event → Session → Session → Option (List ℕ) → Option (List ℕ) → Result (Unit {0}) Cause → Type 0
-TakesEvent asked old new before after (Ok done) = (new ≡ after_event old asked) × (after ≡ append_known before (answer_line (answer_in old asked)))
-TakesEvent asked old new before after (Err cause.Write) = (new ≡ after_event old asked) × TakesFront before after (answer_line (answer_in old asked))
-TakesEvent asked old new before after (Err cause.Memory) = ((new ≡ old) ⊎ (new ≡ after_event old asked)) × (after ≡ before)
-TakesEvent asked old new before after (Err cause.Done) = ⊥
-TakesEvent asked old new before after (Err cause.Usage) = ⊥
-TakesEvent asked old new before after (Err cause.Read) = ⊥
-TakesEvent asked old new before after (Err (cause.BadLine n)) = ⊥
-TakesEvent asked old new before after (Err (cause.Unbuilt n)) = ⊥
+-- an event was answered, or for want of memory it was not; the answer was kept and written, as the outlet says
+pub record TakesEvent {V : Type 0} (tells : Bool) (faults : V → ℕ) (asked : Event) (old new : Replay V) (before after : Option (List ℕ)) (result : Result (Unit {0}) Cause) : Type 0 where
+  pub given : Option Answer
+  pub carries : CarriesEvent tells faults asked given old.core new.core
+  pub outlet : new.outlet ≡ old.outlet
+  pub kept : new.answers.items ≡ old.answers.items ++ kept_of old.outlet (option_to_list given)
+  pub writes : WritesAnswer old.outlet given before after result
 
--- the event that a line asks for was carried out
-pub record IsCarriedOut (line : List ℕ) (old new : Session) : Type 0 where
-  pub taken : IsTaken line
-  pub asked : Event
-  pub asks : event_in line ≡ Some asked
-  pub is : new ≡ after_event old asked
+-- what was written of the answer to a line, if it has one. A line that is refused has none
+abbrev pub WritesForLine : ℕ → List ℕ → Outlet → Option Answer → Option (List ℕ) → Option (List ℕ) → Result (Unit {0}) Cause → Type 0
+WritesForLine number line outlet given before after (Ok done) =
+    IsTaken line × (is_some given ≡ is_some (event_of_line line)) × (after ≡ append_known before (answer_lines (written_of outlet (option_to_list given))))
+WritesForLine number line outlet given before after (Err cause.Write) =
+    (one : Answer) × (given ≡ Some one) × (written_of outlet (one ∷ []) ≡ one ∷ []) × TakesFront before after (answer_line one)
+WritesForLine number line outlet given before after (Err cause.Memory) = after ≡ before
+WritesForLine number line outlet given before after (Err cause.Usage) = ⊥
+WritesForLine number line outlet given before after (Err cause.Read) = ⊥
+WritesForLine number line outlet given before after (Err (cause.BadLine n)) = (n ≡ number) × (parsed_line line ≡ parsed.Bad) × (given ≡ None) × (after ≡ before)
+WritesForLine number line outlet given before after (Err (cause.Illegal at rule)) = ⊥
+WritesForLine number line outlet given before after (Err (cause.Unbuilt n)) = (n ≡ number) × (parsed_line line ≡ parsed.Unbuilt) × (given ≡ None) × (after ≡ before)
 
--- a line was taken whole; or in part, where the sink failed; or nothing changed, where it is refused; or, where memory was short,
--- nothing changed, or the line's event was carried out, and nothing of its answer was written
-abbrev pub TakesInput : ℕ → List ℕ → Session → Session → Option (List ℕ) → Option (List ℕ) → Result (Unit {0}) Cause → Type 0
-TakesInput number line old new before after (Ok done) =
-    IsTaken line × (new ≡ after_line old line) × (after ≡ append_known before (answer_lines (answers_in old line)))
-TakesInput number line old new before after (Err cause.Write) =
-    (carried : IsCarriedOut line old new) × TakesFront before after (answer_line (answer_in old carried.asked))
-TakesInput number line old new before after (Err cause.Memory) = ((new ≡ old) ⊎ IsCarriedOut line old new) × (after ≡ before)
-TakesInput number line old new before after (Err cause.Done) = ⊥
-TakesInput number line old new before after (Err cause.Usage) = ⊥
-TakesInput number line old new before after (Err cause.Read) = ⊥
-TakesInput number line old new before after (Err (cause.BadLine n)) = (n ≡ number) × (parsed_line line ≡ parsed.Bad) × (new ≡ old) × (after ≡ before)
-TakesInput number line old new before after (Err (cause.Unbuilt n)) = (n ≡ number) × (parsed_line line ≡ parsed.Unbuilt) × (new ≡ old) × (after ≡ before)
+-- a line was answered, skipped or refused
+pub record TakesInput {V : Type 0} (tells : Bool) (faults : V → ℕ) (number : ℕ) (line : List ℕ) (old new : Replay V) (before after : Option (List ℕ)) (result : Result (Unit {0}) Cause) : Type 0 where
+  pub given : Option Answer
+  pub carries : CarriesLine tells faults line given old.core new.core
+  pub outlet : new.outlet ≡ old.outlet
+  pub kept : new.answers.items ≡ old.answers.items ++ kept_of old.outlet (option_to_list given)
+  pub writes : WritesForLine number line old.outlet given before after result
 
--- no line stands next: the source's end, its fault, or a line that is too long
-abbrev pub NextEnds : Cause → ℕ → Option (List ℕ) → Option (List ℕ) → Type 0
-NextEnds cause.Done number before after = WhereTold before after (TakesEnd [])
-NextEnds cause.Read number before after = (part : List ℕ) × WhereTold before after (TakesPart part)
-NextEnds (cause.BadLine n) number before after = (n ≡ number) × (line : List ℕ) × WhereTold before after (TakesTooLong line)
-NextEnds cause.Usage number before after = ⊥
-NextEnds cause.Write number before after = ⊥
-NextEnds cause.Memory number before after = ⊥
-NextEnds (cause.Unbuilt n) number before after = ⊥
+-- why no line stands next: the source's fault, or a line that is too long
+abbrev pub NoLine : Cause → ℕ → Option (List ℕ) → Option (List ℕ) → Type 0
+NoLine cause.Read number before after = (part : List ℕ) × WhereTold before after (TakesPart part)
+NoLine (cause.BadLine n) number before after = (n ≡ number) × (line : List ℕ) × WhereTold before after (TakesTooLong line)
+NoLine cause.Usage number before after = ⊥
+NoLine cause.Write number before after = ⊥
+NoLine cause.Memory number before after = ⊥
+NoLine (cause.Illegal at rule) number before after = ⊥
+NoLine (cause.Unbuilt n) number before after = ⊥

@@ -1,12 +1,11 @@
 ghost use Rattle.std.specs.Prelude.{◌≡◌};
 
+use casper_audit::AuditRule;
 use casper_words::Memory;
 
-/// Why a call of `run` ended.
+/// Why a call of `run` ended before it was done.
 #[derive(Clone, Copy, Debug, PartialEq, Eq)]
 pub enum Cause {
-    /// The input was read to its end and every line answered.
-    Done,
     /// The words are no command.
     Usage,
     /// The source failed.
@@ -17,6 +16,8 @@ pub enum Cause {
     Memory,
     /// The line of this number, from 1, is of no known form.
     BadLine(u32),
+    /// The item at this place of the trail is the first bad one, by this rule.
+    Illegal { at: u64, rule: AuditRule },
     /// The command (0), or the line of this number, is not built yet.
     Unbuilt(u32),
 }
@@ -29,12 +30,12 @@ impl Cause {
         ensures { result ≡ status_of self.now }
     {
         match self {
-            Cause::Done => 0,
             Cause::Usage => 2,
             Cause::Read => 3,
             Cause::Write => 4,
             Cause::Memory => 7,
             Cause::BadLine(_) => 8,
+            Cause::Illegal { .. } => 9,
             Cause::Unbuilt(_) => 10,
         }
     }

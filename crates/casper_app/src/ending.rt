@@ -1,58 +1,86 @@
-ghost use Rattle.std.specs.Prelude.{◌≡◌, ◌≢◌, ◌⊎◌, ◌≤◌, IfOk, string_bytes};
-ghost use Rattle.casper_words.specs.Count.{Rose};
-ghost use Rattle.casper_app.specs.Replay.{ending_line};
+ghost use Rattle.std.specs.Prelude.{◌≡◌, ◌≢◌, ◌⊎◌, ◌≤◌, IfOk};
+ghost use Rattle.casper_words.specs.Count.{FaultCountRose};
+ghost use Rattle.casper_app.specs.Texts.{end_line, cause_line, rule_word};
 ghost use Rattle.casper_app.specs.Ending.{EndsWith, WritesLast};
 
-use crate::Cause;
-use crate::summary::Summary;
-use crate::text::{cause_text, summary_text};
+use crate::{Cause, End};
+use casper_audit::AuditRule;
 use casper_io::{Sink, put_all};
+use casper_report::summary_text;
 use casper_words::Memory;
 use std::alloc::Global;
 
-/// Writes the line that tells how a call ended, and answers for which cause it ended after all.
-pub(crate) fn write_ending<K: Sink>(
-    alloc: Global,
-    sink: &mut K,
-    meant: Cause,
-    summary: &Summary,
-) -> Cause
-    ensures ends { EndsWith meant result summary.now (K.taken sink.old) (K.taken sink.new) }
-    ensures fault { result ≡ Cause.Write → (meant ≡ Cause.Write) ⊎ Rose (K.faults sink.old) (K.faults sink.new) }
-    ensures sink_stands { (result ≡ Cause.Write) ⊎ (K.faults sink.new ≡ K.faults sink.old) }
-    ensures cause { (result ≡ meant) ⊎ (result ≡ Cause.Write) ⊎ (result ≡ Cause.Memory) }
-    ensures untouched { meant ≡ Cause.Write → K.faults sink.new ≡ K.faults sink.old }
-    ensures read { result ≡ Cause.Read → meant ≡ Cause.Read }
-    ensures done { result ≡ Cause.Done → meant ≡ Cause.Done }
+/// Writes the line that tells how a call ended, and answers how it ended after all.
+pub(crate) fn write_ending<K: Sink>(alloc: Global, sink: &mut K, meant: End) -> End
+    ensures ends { EndsWith meant result (K.taken sink.old) (K.taken sink.new) }
+    ensures fault { result ≡ End.Stopped Cause.Write
+        → (meant ≡ End.Stopped Cause.Write)
+        ⊎ FaultCountRose (K.faults sink.old) (K.faults sink.new) }
+    ensures sink_stands { (result ≡ End.Stopped Cause.Write)
+        ⊎ (K.faults sink.new ≡ K.faults sink.old) }
+    ensures end { (result ≡ meant) ⊎ (result ≡ End.Stopped Cause.Write)
+        ⊎ (result ≡ End.Stopped Cause.Memory) }
+    ensures untouched { meant ≡ End.Stopped Cause.Write → K.faults sink.new ≡ K.faults sink.old }
 {
-    if let Cause::Write = meant {
-        return Cause::Write;
+    if let End::Stopped(Cause::Write) = meant {
+        return meant;
     }
-    match ending_text(alloc, meant, summary) {
-        Ok(text) => write_last(sink, text.as_bytes(), meant),
-        Err(Memory) => write_last(sink, b"no memory\n", Cause::Memory),
+    match end_text(alloc, &meant) {
+        Ok(text) => write_last(sink, text.as_slice(), meant),
+        Err(Memory) => write_last(sink, b"no memory\n", End::Stopped(Cause::Memory)),
     }
 }
 
 /// The line that tells how a call ended.
-fn ending_text(alloc: Global, said: Cause, summary: &Summary) -> Result<String, Memory>
-    ensures { IfOk result (λ text. string_bytes text ≡ ending_line said summary.now) }
+fn end_text(alloc: Global, said: &End) -> Result<Vec<u8>, Memory>
+    ensures { IfOk result (λ text. text.items ≡ end_line said.now) }
 {
     match said {
-        Cause::Done => summary_text(alloc, summary),
-        _ => cause_text(alloc, &said),
+        End::Done(summary) => summary_text(alloc, summary),
+        End::Legal(entries) => Ok(format!(in alloc; "legal {entries}\n")?.into_bytes()),
+        End::Stopped(cause) => cause_text(alloc, cause),
     }
 }
 
-/// Writes the last bytes of a call, for a cause that stands unless the sink fails.
-fn write_last<K: Sink>(sink: &mut K, bytes: &[u8], said: Cause) -> Cause
+/// The line for a status other than 0, which comes last.
+fn cause_text(alloc: Global, cause: &Cause) -> Result<Vec<u8>, Memory>
+    ensures { IfOk result (λ text. text.items ≡ cause_line cause.now) }
+{
+    let text = match cause {
+        Cause::Write => String::new(alloc),
+        Cause::Usage => format!(in alloc; "usage\n")?,
+        Cause::Read => format!(in alloc; "read fault\n")?,
+        Cause::Memory => format!(in alloc; "no memory\n")?,
+        Cause::BadLine(line) => format!(in alloc; "bad line {line}\n")?,
+        Cause::Illegal { at, rule } => format!(in alloc; "bad {at} {}\n", rule_text(*rule))?,
+        Cause::Unbuilt(line) => format!(in alloc; "unbuilt {line}\n")?,
+    };
+    Ok(text.into_bytes())
+}
+
+/// The word for a rule of a trail.
+fn rule_text(rule: AuditRule) -> &'static str
+    ensures { result.now ≡ rule_word rule }
+{
+    match rule {
+        AuditRule::Read => "read",
+        AuditRule::Commit => "commit",
+        AuditRule::Rollback => "rollback",
+    }
+}
+
+/// Writes the last bytes of a call, for an end that stands unless the sink fails.
+fn write_last<K: Sink>(sink: &mut K, bytes: &[u8], said: End) -> End
     ensures written { WritesLast said result bytes.now (K.taken sink.old) (K.taken sink.new) }
-    ensures fault { result ≡ Cause.Write → (said ≡ Cause.Write) ⊎ Rose (K.faults sink.old) (K.faults sink.new) }
-    ensures said { (result ≡ said) ⊎ (result ≡ Cause.Write) }
-    ensures sink_stands { (result ≡ Cause.Write) ⊎ (K.faults sink.new ≡ K.faults sink.old) }
+    ensures fault { result ≡ End.Stopped Cause.Write
+        → (said ≡ End.Stopped Cause.Write)
+        ⊎ FaultCountRose (K.faults sink.old) (K.faults sink.new) }
+    ensures said { (result ≡ said) ⊎ (result ≡ End.Stopped Cause.Write) }
+    ensures sink_stands { (result ≡ End.Stopped Cause.Write)
+        ⊎ (K.faults sink.new ≡ K.faults sink.old) }
 {
     match put_all(sink, bytes) {
         Ok(()) => said,
-        Err(_) => Cause::Write,
+        Err(_) => End::Stopped(Cause::Write),
     }
 }

@@ -1,6 +1,6 @@
 ghost use Rattle.casper_app.specs.Grammar.{EventsAreReadBack, EventsHaveOneText};
 ghost use Rattle.casper_app.specs.LineLaws.{LinesAreSorted, ReplaysHaveOneText};
-ghost use Rattle.casper_app.specs.Machine.{SessionsRunTheMachine, LinesNameClients, SessionsAreLegal, SessionsKeepCalls};
+ghost use Rattle.casper_app.specs.Machine.{UnfailingSessions, LinesNameClients, SessionsAreLegal, SessionsKeepCalls};
 
 /// The lines of a schedule and the events that they ask for determine each other. Each line is one of these and no other: it is
 /// skipped, as a comment or without a word; it has the words of an event; it has those of none and begins with a client's number or
@@ -13,12 +13,12 @@ pub fn schedule_laws()
     ensures replays { ReplaysHaveOneText }
 {}
 
-/// What stands behind lines is a run of the machine for the events that they ask for, each of which names a client; so
-/// the trail is legal over the store's zero pages, and with all pending calls behind it. A client's recorded calls and then
-/// its pending ones are those that the answers complete, in their order, unless it is answered that it was rolled back, or
-/// vanishes. It does nothing.
+/// A session is the machine's run, with what the outside did read off the answers: where no answer tells of a fault, the answers and
+/// the state are those when nothing fails. The events that lines ask for name clients; so over every vault the trail is legal over the
+/// array that the opening found, and with all pending calls after it. A client's recorded calls and then its pending ones are those
+/// that the answers complete, in their order, unless it is answered that it was rolled back, or vanishes. It does nothing.
 pub fn session_laws()
-    ensures machine { SessionsRunTheMachine }
+    ensures machine { UnfailingSessions }
     ensures clients { LinesNameClients }
     ensures legal { SessionsAreLegal }
     ensures calls { SessionsKeepCalls }

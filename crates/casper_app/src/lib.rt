@@ -3,16 +3,18 @@
 
 mod cause;
 mod command;
+mod end;
 mod ending;
 mod laws;
 mod lines;
+mod outlet;
 mod replay;
 mod schedule;
-mod summary;
 mod taking;
-mod text;
 mod top;
 
 pub use cause::Cause;
+pub use command::{Command, Opening};
+pub use end::End;
 pub use laws::{schedule_laws, session_laws};
 pub use top::{Ended, run};

@@ -1,58 +1,52 @@
-ghost use Rattle.std.specs.Prelude.{◌≡◌, ◌∷◌, ◌++◌, [], ◌+◌, ◌<◌, ◌≤◌, IfOk, OnErr};
+ghost use Rattle.std.specs.Prelude.{◌≡◌, ◌∷◌, ◌++◌, [], ◌+◌, ◌<◌, ◌≤◌, IfOk, OnErr, OnOk, IsTrue};
 ghost use Rattle.casper_core.specs.Stepping.{IsBuilt};
-ghost use Rattle.casper_app.specs.Session.{Session, at_start, after_event, summary_of};
-ghost use Rattle.casper_app.specs.Taking.{answer_in};
-ghost use Rattle.casper_app.specs.At.{IsAt};
+ghost use Rattle.casper_app.specs.Carrying.{MakesStep, MakesNone, summary_in};
+ghost use Rattle.casper_app.specs.Outlet.{keeps, kept_of};
 
-use crate::summary::Summary;
+use crate::outlet::Outlet;
 use casper_core::{Core, StepFault};
-use casper_disk::MemVault;
+use casper_disk::Vault;
 use casper_model::Event;
+use casper_report::Summary;
 use casper_space::{Answer, Answers};
 use casper_trail::{Mark, Trail};
 use casper_words::Memory;
 use std::alloc::Global;
 
-/// The greatest number of entries of one trail.
-pub(crate) const MOST_ENTRIES: u32 = 4_194_304;
-
-/// The greatest number of pages that a client may hold.
-const MOST_HELD: u32 = 64;
-
-/// A replay: the core that carries events out, over a vault in memory, and the answers that it gave.
+/// A replay: the core that carries events out, what becomes of its answers, and those that are kept.
 #[derive(Drop)]
-pub(crate) struct Replay {
-    pub(crate) core: Core<MemVault>,
+pub(crate) struct Replay<V: Vault> {
+    pub(crate) core: Core<V>,
+    pub(crate) outlet: Outlet,
     pub(crate) answers: Answers,
 }
 
-impl Replay {
-    /// The replay before any event, over so many zero pages.
-    pub(crate) fn new(alloc: Global, pages: u32) -> Result<Replay, Memory>
-        requires { pages ≤ 16384 }
-        ensures start { IfOk result (λ replay. IsAt (at_start pages) replay) }
-        ensures calls { IfOk result (λ replay. replay.core.calls ≡ 0) }
+impl<V: Vault> Replay<V> {
+    /// The replay before any event.
+    pub(crate) fn new(alloc: Global, core: Core<V>, outlet: Outlet) -> Replay<V>
+        ensures core { result.core ≡ core }
+        ensures outlet { result.outlet ≡ outlet }
+        ensures answers { result.answers.items ≡ [] }
     {
-        let vault = MemVault::new(alloc, pages)?;
-        match Core::new(alloc, vault, MOST_ENTRIES, MOST_HELD) {
-            Ok(core) => Ok(Replay {
-                core,
-                answers: Answers::new(alloc),
-            }),
-            Err((_vault, memory)) => Err(memory),
+        Replay {
+            core,
+            outlet,
+            answers: Answers::new(alloc),
         }
     }
 
-    /// Carries an event out, answers it, and keeps the answer. Where memory is short nothing changes.
+    /// Carries an event out, answers it, and keeps the answer where answers are kept. Where memory is short nothing changes.
     pub(crate) fn carry_out(&mut self, event: &Event) -> Result<Answer, Memory>
-        requires built { IsBuilt event.now }
-        requires few { self.old.core.calls < 1048576 }
-        ensures ok { IfOk result (λ answer. (session : Session) → IsAt session self.old →
-            (answer ≡ answer_in session event.now) × IsAt (after_event session event.now) self.new) }
-        ensures err { OnErr result ((session : Session) → IsAt session self.old → IsAt session self.new) }
-        ensures calls { self.new.core.calls ≤ self.old.core.calls + 1 }
+        requires { IsBuilt event.now }
+        ensures step { IfOk result
+            (λ answer. MakesStep V.tells V.faults event.now answer self.old.core self.new.core) }
+        ensures kept { IfOk result (λ answer. self.new.answers.items
+            ≡ self.old.answers.items ++ kept_of self.old.outlet (answer ∷ [])) }
+        ensures outlet { self.new.outlet ≡ self.old.outlet }
+        ensures none { OnErr result (MakesNone V.tells V.faults self.old.core self.new.core) }
+        ensures same { OnErr result (self.new.answers.items ≡ self.old.answers.items) }
     {
-        self.answers.reserve(1)?;
+        self.make_room()?;
         match self.core.step(event) {
             Ok(answer) => {
                 self.keep(&answer);
@@ -62,18 +56,35 @@ impl Replay {
         }
     }
 
-    /// Keeps an answer, for which there is room.
-    fn keep(&mut self, answer: &Answer)
-        requires { 0 < self.old.answers.room }
+    /// Makes room for an answer that is kept.
+    fn make_room(&mut self) -> Result<(), Memory>
+        ensures room { OnOk result (IsTrue (keeps self.new.outlet) → 0 < self.new.answers.room) }
         ensures core { self.new.core ≡ self.old.core }
-        ensures kept { self.new.answers.items ≡ self.old.answers.items ++ answer.now ∷ [] }
+        ensures outlet { self.new.outlet ≡ self.old.outlet }
+        ensures answers { self.new.answers.items ≡ self.old.answers.items }
     {
-        let _ = self.answers.push(*answer);
+        if self.outlet.keeps() {
+            self.answers.reserve(1)?;
+        }
+        Ok(())
     }
 
-    /// What the last line tells behind so many lines.
+    /// Keeps an answer, where answers are kept and there is room.
+    fn keep(&mut self, answer: &Answer)
+        requires { IsTrue (keeps self.old.outlet) → 0 < self.old.answers.room }
+        ensures core { self.new.core ≡ self.old.core }
+        ensures outlet { self.new.outlet ≡ self.old.outlet }
+        ensures kept { self.new.answers.items
+            ≡ self.old.answers.items ++ kept_of self.old.outlet (answer.now ∷ []) }
+    {
+        if self.outlet.keeps() {
+            let _ = self.answers.push(*answer);
+        }
+    }
+
+    /// What the last line tells after so many lines.
     pub(crate) fn summary(&self, lines: u32) -> Summary
-        ensures { (session : Session) → IsAt session self.now → result ≡ summary_of lines session }
+        ensures { result ≡ summary_in lines self.now.core }
     {
         let _mark: Option<Mark> = None;
         let trail = self.core.hub().trail();
@@ -86,13 +97,14 @@ impl Replay {
         }
     }
 
-    /// The answers and the trail. It takes no memory.
-    pub(crate) fn into_parts(self) -> (Answers, Trail)
+    /// The answers that were kept, the trail and the vault. It takes no memory.
+    pub(crate) fn into_parts(self) -> (Answers, Trail, V)
         ensures answers { result.0 ≡ self.answers }
         ensures trail { result.1.items ≡ self.core.hub.trail }
+        ensures vault { result.2 ≡ self.core.vault }
     {
-        let Replay { core, answers } = self;
-        let (hub, _vault) = core.into_parts();
-        (answers, hub.into_trail())
+        let Replay { core, answers, .. } = self;
+        let (hub, vault) = core.into_parts();
+        (answers, hub.into_trail(), vault)
     }
 }

@@ -1,6 +1,6 @@
 ghost use Rattle.std.specs.Prelude.{◌≡◌, [], ◌∷◌, ◌<◌, ◌≤◌, ◌^◌, length, map, position, All, IfOk, IfSome};
 ghost use Rattle.casper_text.specs.Span.{IsWithin, word_at};
-ghost use Rattle.casper_app.specs.Schedule.{client_of as client_in, lone_client as lone_client_in, place_of as place_in, right_of as right_in, want_of as want_in, wants_of as wants_in, rising_wants, is_colon, join_of, read_of, write_of, acquire_of, serve_of, depart_of, event_of as event_in, is_unbuilt as begins_unbuilt, is_unbuilt_verb as among_unbuilt, is_comment as begins_comment, parsed_words as words_parsed, parsed_line as line_parsed};
+ghost use Rattle.casper_app.specs.Schedule.{client_of as client_in, lone_client as lone_client_in, place_of as place_in, right_of as right_in, want_of as want_in, wants_of as wants_in, rising_wants, is_colon, join_of, read_of, write_of, acquire_of, serve_of, depart_of, event_of as event_of_line, is_unbuilt as begins_unbuilt, is_unbuilt_verb as among_unbuilt, is_comment as begins_comment, parsed_words as words_parsed, parsed_line as line_parsed};
 
 use casper_model::Event;
 use casper_text::{Span, number, small_number, words_of};
@@ -54,7 +54,7 @@ fn parse_words(line: &[u8], spans: &[Span]) -> Parsed
 
 fn event_of(line: &[u8], spans: &[Span]) -> Option<Event>
     requires { All (IsWithin line.now) spans.now }
-    ensures { result ≡ event_in (map (word_at line.now) spans.now) }
+    ensures { result ≡ event_of_line (map (word_at line.now) spans.now) }
 {
     let [verb, rest @ ..] = spans else {
         return None;

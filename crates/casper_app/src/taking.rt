@@ -1,39 +1,48 @@
-ghost use Rattle.std.specs.Prelude.{◌≡◌, ◌≢◌, ◌⊎◌, ◌+◌, ◌<◌, ◌≤◌, length, MatchOption, Some, Err};
+ghost use Rattle.std.specs.Prelude.{◌≡◌, ◌≢◌, ◌⊎◌, ◌+◌, ◌<◌, ◌≤◌, [], length, MatchResult, MatchBool, Err};
 ghost use Rattle.casper_core.specs.Stepping.{IsBuilt};
-ghost use Rattle.casper_words.specs.Count.{Rose};
-ghost use Rattle.casper_io.specs.Lines.{TakesLine};
+ghost use Rattle.casper_words.specs.Count.{FaultCountRose};
+ghost use Rattle.casper_io.specs.Lines.{TakesLine, TakesEnd};
 ghost use Rattle.casper_io.specs.Told.{WhereTold};
-ghost use Rattle.casper_app.specs.At.{IsAt};
-ghost use Rattle.casper_app.specs.Session.{Session};
-ghost use Rattle.casper_app.specs.Taking.{TakesEvent, TakesInput, NextEnds};
+ghost use Rattle.casper_app.specs.Taking.{TakesEvent, TakesInput, NoLine};
 
 use crate::Cause;
 use crate::replay::Replay;
 use crate::schedule::{Parsed, parse_line};
-use crate::text::answer_text;
+use casper_disk::Vault;
 use casper_io::{IoFault, Line, Next, Sink, Source, next_line, put_all};
 use casper_model::Event;
+use casper_report::answer_text;
+use casper_trail::Mark;
 use std::alloc::Global;
 
-/// Reads the next line into `line`. Some cause where no line stands next; the line would have been of this number.
-pub(crate) fn read_line<S: Source>(source: &mut S, line: &mut Line, number: u32) -> Option<Cause>
-    ensures next { MatchOption result
+/// Reads the next line into `line`, and tells whether there is one. The line would be of this number.
+pub(crate) fn read_line<S: Source>(
+    source: &mut S,
+    line: &mut Line,
+    number: u32,
+) -> Result<bool, Cause>
+    ensures next { MatchResult result
+        (λ found. MatchBool found
         (WhereTold (S.left source.old) (S.left source.new) (TakesLine line.new))
-        (λ ended. NextEnds ended number (S.left source.old) (S.left source.new)) }
-    ensures fault { result ≡ Some Cause.Read → Rose (S.faults source.old) (S.faults source.new) }
-    ensures source_stands { (result ≡ Some Cause.Read) ⊎ (S.faults source.new ≡ S.faults source.old) }
+        (WhereTold (S.left source.old) (S.left source.new) (TakesEnd [])))
+        (λ cause. NoLine cause number (S.left source.old) (S.left source.new)) }
+    ensures fault { result ≡ Err Cause.Read
+        → FaultCountRose (S.faults source.old) (S.faults source.new) }
+    ensures source_stands { (result ≡ Err Cause.Read)
+        ⊎ (S.faults source.new ≡ S.faults source.old) }
+    ensures write { result ≢ Err Cause.Write }
     ensures short { length line.new ≤ 1024 }
 {
     match next_line(source, line) {
-        Ok(Next::Line) => None,
-        Ok(Next::End) => Some(Cause::Done),
-        Ok(Next::TooLong) => Some(Cause::BadLine(number)),
-        Err(IoFault::Failed) => Some(Cause::Read),
+        Ok(Next::Line) => Ok(true),
+        Ok(Next::End) => Ok(false),
+        Ok(Next::TooLong) => Err(Cause::BadLine(number)),
+        Err(IoFault::Failed) => Err(Cause::Read),
     }
 }
 
-impl Replay {
-    /// Answers a line, if it asks for an event, and writes the answer.
+impl<V: Vault> Replay<V> {
+    /// Answers a line, if it asks for an event, and writes the answer where answers are written.
     pub(crate) fn take_line<K: Sink>(
         &mut self,
         alloc: Global,
@@ -41,15 +50,15 @@ impl Replay {
         line: &[u8],
         sink: &mut K,
     ) -> Result<(), Cause>
-        requires few { self.old.core.calls < 1048576 }
-        requires short { length line.now ≤ 1024 }
-        ensures takes { (session : Session) → IsAt session self.old → (after : Session) × IsAt after self.new
-            × TakesInput number line.now session after (K.taken sink.old) (K.taken sink.new) result }
-        ensures calls { self.new.core.calls ≤ self.old.core.calls + 1 }
+        requires { length line.now ≤ 1024 }
+        ensures takes { TakesInput V.tells V.faults number line.now self.old self.new
+            (K.taken sink.old) (K.taken sink.new) result }
         ensures read { result ≢ Err Cause.Read }
-        ensures fault { result ≡ Err Cause.Write → Rose (K.faults sink.old) (K.faults sink.new) }
+        ensures fault { result ≡ Err Cause.Write
+            → FaultCountRose (K.faults sink.old) (K.faults sink.new) }
         ensures sink_stands { (result ≡ Err Cause.Write) ⊎ (K.faults sink.new ≡ K.faults sink.old) }
     {
+        let _mark: Option<Mark> = None;
         match parse_line(alloc, line)? {
             Parsed::Skip => Ok(()),
             Parsed::Event(event) => self.take_event(alloc, &event, sink),
@@ -58,25 +67,28 @@ impl Replay {
         }
     }
 
-    /// Answers an event, and writes the answer.
+    /// Answers an event, and writes the answer where answers are written.
     fn take_event<K: Sink>(
         &mut self,
         alloc: Global,
         event: &Event,
         sink: &mut K,
     ) -> Result<(), Cause>
-        requires built { IsBuilt event.now }
-        requires few { self.old.core.calls < 1048576 }
-        ensures takes { (session : Session) → IsAt session self.old → (after : Session) × IsAt after self.new
-            × TakesEvent event.now session after (K.taken sink.old) (K.taken sink.new) result }
-        ensures calls { self.new.core.calls ≤ self.old.core.calls + 1 }
+        requires { IsBuilt event.now }
+        ensures takes { TakesEvent V.tells V.faults event.now self.old self.new (K.taken sink.old)
+            (K.taken sink.new) result }
         ensures read { result ≢ Err Cause.Read }
-        ensures fault { result ≡ Err Cause.Write → Rose (K.faults sink.old) (K.faults sink.new) }
+        ensures fault { result ≡ Err Cause.Write
+            → FaultCountRose (K.faults sink.old) (K.faults sink.new) }
         ensures sink_stands { (result ≡ Err Cause.Write) ⊎ (K.faults sink.new ≡ K.faults sink.old) }
     {
+        let _mark: Option<Mark> = None;
         let answer = self.carry_out(event)?;
+        if !self.outlet.writes() {
+            return Ok(());
+        }
         let text = answer_text(alloc, &answer)?;
-        match put_all(sink, text.as_bytes()) {
+        match put_all(sink, text.as_slice()) {
             Ok(()) => Ok(()),
             Err(IoFault::Failed) => Err(Cause::Write),
         }

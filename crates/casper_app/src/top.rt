@@ -1,21 +1,24 @@
-ghost use Rattle.std.specs.Prelude.{◌≡◌, ◌≤◌, [], ◌⊎◌, IfSome, IfOk};
-ghost use Rattle.casper_words.specs.Count.{Rose};
-ghost use Rattle.casper_app.specs.At.{IsAt};
-ghost use Rattle.casper_app.specs.Replay.{unread_summary};
-ghost use Rattle.casper_app.specs.Session.{at_start};
-ghost use Rattle.casper_app.specs.Status.{status_of};
-ghost use Rattle.casper_app.specs.Ending.{IsRun, IsLegalRun, RunsReplay, IsLegalReplay, EndsWith};
+ghost use Rattle.std.specs.Prelude.{◌≡◌, ◌≤◌, [], ◌⊎◌, IsTrue, IfSome, IfOk};
+ghost use Rattle.casper_core.specs.Represents.{Represents};
+ghost use Rattle.casper_model.specs.State.{State};
+ghost use Rattle.casper_words.specs.Count.{FaultCountRose};
+ghost use Rattle.casper_app.specs.Command.{IsCommand, IsOpening};
+ghost use Rattle.casper_app.specs.Status.{status_of_end};
+ghost use Rattle.casper_app.specs.Ending.{IsRun, IsLegalRun, RunsCommand, IsLegalCommand, RunsAudit, end_of_audit, RunsReplay, RunsInMemory, IsLegalInMemory, EndsWith, IsDone, start_of};
 
-use crate::Cause;
-use crate::command::pages_asked;
+use crate::command::{Command, MOST_ENTRIES, Opening};
 use crate::ending::write_ending;
 use crate::lines::take_lines;
-use crate::replay::{MOST_ENTRIES, Replay};
-use crate::summary::Summary;
+use crate::outlet::Outlet;
+use crate::replay::Replay;
+use crate::{Cause, End};
+use casper_audit::{AuditFault, Verdict, audit};
+use casper_core::Core;
+use casper_disk::{MemVault, Vault};
 use casper_io::{Line, Sink, Source};
 use casper_space::Answers;
 use casper_text::Word;
-use casper_trail::Trail;
+use casper_trail::{Mark, Trail};
 use casper_words::Memory;
 use std::alloc::Global;
 
@@ -28,58 +31,96 @@ pub struct Ended {
     pub answers: Answers,
     /// The trail of the core that gave these answers.
     pub trail: Trail,
-    /// Why the call ended.
-    pub last: Cause,
+    /// How the call ended.
+    pub last: End,
 }
 
 /// Does what the words ask: `replay mem:P` answers the lines of the source over a store of P zero pages, each before it
-/// reads the next, and writes the answers and a summary to the sink.
+/// reads the next, and writes the answers and a summary to the sink; `audit` reads the text of a trail, and writes whether it is legal.
 ///
 /// Where the words are refused nothing is read. Where the call does not end with status 0 the last line tells why.
 pub fn run<S: Source, K: Sink>(alloc: Global, words: &[Word], source: &mut S, sink: &mut K) -> Ended
     // What was read, answered, recorded and written.
-    ensures run { IsRun words.now (S.left source.old) (S.left source.new) (K.taken sink.old) (K.taken sink.new)
+    ensures run { IsRun words.now (S.left source.old) (S.left source.new) (K.taken sink.old)
+        (K.taken sink.new)
         result.answers.items result.trail.items result.last }
-    // What was recorded is one legal history of a plain page array, and so it is with the calls that are pending behind it.
-    ensures legal { IsLegalRun words.now (S.left source.old) result.answers.items result.trail.items }
+    // What was recorded is one legal history of a plain page array, and so it is with the calls that are pending after it.
+    ensures legal { IsLegalRun words.now
+        (S.left source.old) result.answers.items result.trail.items }
     // Status 0 says that the input was read to its end. A fault of the input or of the output ends the call: that of the
     // input with status 3, unless the output fails or memory is short at the last line, and that of the output with status 4.
-    ensures end { result.last ≡ Cause.Done → IfSome (S.left source.new) (λ left. left ≡ []) }
-    ensures status { result.status ≡ status_of result.last }
-    ensures read_fault { result.last ≡ Cause.Read → Rose (S.faults source.old) (S.faults source.new) }
-    ensures source_stands { (result.last ≡ Cause.Read) ⊎ (result.last ≡ Cause.Write) ⊎ (result.last ≡ Cause.Memory)
-        ⊎ (S.faults source.new ≡ S.faults source.old) }
-    ensures write_fault { result.last ≡ Cause.Write → Rose (K.faults sink.old) (K.faults sink.new) }
-    ensures sink_stands { (result.last ≡ Cause.Write) ⊎ (K.faults sink.new ≡ K.faults sink.old) }
+    ensures end { IsDone result.last → IfSome (S.left source.new) (λ left. left ≡ []) }
+    ensures status { result.status ≡ status_of_end result.last }
+    ensures read_fault { result.last ≡ End.Stopped Cause.Read
+        → FaultCountRose (S.faults source.old) (S.faults source.new) }
+    ensures source_stands { (result.last ≡ End.Stopped Cause.Read)
+        ⊎ (result.last ≡ End.Stopped Cause.Write)
+        ⊎ (result.last ≡ End.Stopped Cause.Memory) ⊎ (S.faults source.new ≡ S.faults source.old) }
+    ensures write_fault { result.last ≡ End.Stopped Cause.Write
+        → FaultCountRose (K.faults sink.old) (K.faults sink.new) }
+    ensures sink_stands { (result.last ≡ End.Stopped Cause.Write)
+        ⊎ (K.faults sink.new ≡ K.faults sink.old) }
 {
-    match pages_asked(words) {
-        Ok(pages) => replay(alloc, pages, source, sink),
-        Err(cause) => end_unread(alloc, cause, sink),
+    match Command::of(words) {
+        Ok(command) => carry_out(alloc, &command, source, sink),
+        Err(cause) => end_unread(alloc, cause, Trail::new(alloc, MOST_ENTRIES), sink),
     }
 }
 
-/// Replays the lines of the source over so many zero pages.
-fn replay<S: Source, K: Sink>(alloc: Global, pages: u32, source: &mut S, sink: &mut K) -> Ended
-    requires { pages ≤ 16384 }
-    ensures run { RunsReplay pages (S.left source.old) (S.left source.new) (K.taken sink.old) (K.taken sink.new)
+/// Carries a command out.
+fn carry_out<S: Source, K: Sink>(
+    alloc: Global,
+    command: &Command,
+    source: &mut S,
+    sink: &mut K,
+) -> Ended
+    requires { IsCommand command.now }
+    ensures run { RunsCommand command.now (S.left source.old) (S.left source.new) (K.taken sink.old)
+        (K.taken sink.new)
         result.answers.items result.trail.items result.last }
-    ensures legal { IsLegalReplay pages (S.left source.old) result.answers.items result.trail.items }
-    ensures end { result.last ≡ Cause.Done → IfSome (S.left source.new) (λ left. left ≡ []) }
-    ensures status { result.status ≡ status_of result.last }
-    ensures read_fault { result.last ≡ Cause.Read → Rose (S.faults source.old) (S.faults source.new) }
-    ensures source_stands { (result.last ≡ Cause.Read) ⊎ (result.last ≡ Cause.Write) ⊎ (result.last ≡ Cause.Memory)
-        ⊎ (S.faults source.new ≡ S.faults source.old) }
-    ensures write_fault { result.last ≡ Cause.Write → Rose (K.faults sink.old) (K.faults sink.new) }
-    ensures sink_stands { (result.last ≡ Cause.Write) ⊎ (K.faults sink.new ≡ K.faults sink.old) }
+    ensures legal { IsLegalCommand command.now
+        (S.left source.old) result.answers.items result.trail.items }
+    ensures end { IsDone result.last → IfSome (S.left source.new) (λ left. left ≡ []) }
+    ensures status { result.status ≡ status_of_end result.last }
+    ensures read_fault { result.last ≡ End.Stopped Cause.Read
+        → FaultCountRose (S.faults source.old) (S.faults source.new) }
+    ensures source_stands { (result.last ≡ End.Stopped Cause.Read)
+        ⊎ (result.last ≡ End.Stopped Cause.Write)
+        ⊎ (result.last ≡ End.Stopped Cause.Memory) ⊎ (S.faults source.new ≡ S.faults source.old) }
+    ensures write_fault { result.last ≡ End.Stopped Cause.Write
+        → FaultCountRose (K.faults sink.old) (K.faults sink.new) }
+    ensures sink_stands { (result.last ≡ End.Stopped Cause.Write)
+        ⊎ (K.faults sink.new ≡ K.faults sink.old) }
 {
-    let (mut line, mut replay) = match rooms(alloc, pages) {
-        Ok(rooms) => rooms,
-        Err(Memory) => return end_unread(alloc, Cause::Memory, sink),
-    };
-    let reading = take_lines(alloc, &mut replay, &mut line, source, sink);
-    let summary = replay.summary(reading.lines);
-    let last = write_ending(alloc, sink, reading.said, &summary);
-    let (answers, trail) = replay.into_parts();
+    let _mark: Option<Mark> = None;
+    match command {
+        Command::Replay(opening) => replay_in_memory(alloc, opening, source, sink),
+        Command::Audit => audit_source(alloc, source, sink),
+    }
+}
+
+/// Audits the text of a trail that the source gives.
+fn audit_source<S: Source, K: Sink>(alloc: Global, source: &mut S, sink: &mut K) -> Ended
+    ensures run { RunsAudit (S.left source.old) (S.left source.new) (K.taken sink.old)
+        (K.taken sink.new)
+        result.answers.items result.trail.items result.last }
+    ensures end { IsDone result.last → IfSome (S.left source.new) (λ left. left ≡ []) }
+    ensures status { result.status ≡ status_of_end result.last }
+    ensures read_fault { result.last ≡ End.Stopped Cause.Read
+        → FaultCountRose (S.faults source.old) (S.faults source.new) }
+    ensures source_stands { (result.last ≡ End.Stopped Cause.Read)
+        ⊎ (result.last ≡ End.Stopped Cause.Write)
+        ⊎ (result.last ≡ End.Stopped Cause.Memory) ⊎ (S.faults source.new ≡ S.faults source.old) }
+    ensures write_fault { result.last ≡ End.Stopped Cause.Write
+        → FaultCountRose (K.faults sink.old) (K.faults sink.new) }
+    ensures sink_stands { (result.last ≡ End.Stopped Cause.Write)
+        ⊎ (K.faults sink.new ≡ K.faults sink.old) }
+{
+    let _mark: Option<Mark> = None;
+    let found = audit(alloc, source);
+    let last = write_ending(alloc, sink, end_of(&found));
+    let answers = Answers::new(alloc);
+    let trail = Trail::new(alloc, MOST_ENTRIES);
     Ended {
         status: last.status(),
         answers,
@@ -88,40 +129,138 @@ fn replay<S: Source, K: Sink>(alloc: Global, pages: u32, source: &mut S, sink: &
     }
 }
 
-/// The room of one line, and the state before any event.
-fn rooms(alloc: Global, pages: u32) -> Result<(Line, Replay), Memory>
-    requires { pages ≤ 16384 }
-    ensures start { IfOk result (λ rooms. IsAt (at_start pages) rooms.1) }
-    ensures calls { IfOk result (λ rooms. rooms.1.core.calls ≡ 0) }
+/// How an audit means to end.
+fn end_of(found: &Result<Verdict, AuditFault>) -> End
+    ensures { result ≡ end_of_audit found.now }
 {
-    let line = Line::new(alloc)?;
-    let replay = Replay::new(alloc, pages)?;
-    Ok((line, replay))
+    match found {
+        Ok(Verdict::Legal(entries)) => End::Legal(*entries),
+        Ok(Verdict::FirstBad { at, rule }) => End::Stopped(Cause::Illegal {
+            at: *at,
+            rule: *rule,
+        }),
+        Err(AuditFault::Memory) => End::Stopped(Cause::Memory),
+        Err(AuditFault::Read) => End::Stopped(Cause::Read),
+        Err(AuditFault::BadLine(line)) => End::Stopped(Cause::BadLine(*line)),
+    }
 }
 
-/// Ends a call that has read and answered nothing.
-fn end_unread<K: Sink>(alloc: Global, meant: Cause, sink: &mut K) -> Ended
-    ensures ends { EndsWith meant result.last unread_summary (K.taken sink.old) (K.taken sink.new) }
-    ensures answers { result.answers.items ≡ [] }
-    ensures trail { result.trail.items ≡ [] }
-    ensures status { result.status ≡ status_of result.last }
-    ensures read { result.last ≡ Cause.Read → meant ≡ Cause.Read }
-    ensures fault { result.last ≡ Cause.Write → (meant ≡ Cause.Write) ⊎ Rose (K.faults sink.old) (K.faults sink.new) }
-    ensures sink_stands { (result.last ≡ Cause.Write) ⊎ (K.faults sink.new ≡ K.faults sink.old) }
-    ensures done { result.last ≡ Cause.Done → meant ≡ Cause.Done }
+/// Replays the lines of the source over a store in memory.
+fn replay_in_memory<S: Source, K: Sink>(
+    alloc: Global,
+    opening: &Opening,
+    source: &mut S,
+    sink: &mut K,
+) -> Ended
+    requires { IsOpening opening.now }
+    ensures run { RunsInMemory opening.now (S.left source.old) (S.left source.new)
+        (K.taken sink.old) (K.taken sink.new)
+        result.answers.items result.trail.items result.last }
+    ensures legal { IsLegalInMemory opening.now
+        (S.left source.old) result.answers.items result.trail.items }
+    ensures end { IsDone result.last → IfSome (S.left source.new) (λ left. left ≡ []) }
+    ensures status { result.status ≡ status_of_end result.last }
+    ensures read_fault { result.last ≡ End.Stopped Cause.Read
+        → FaultCountRose (S.faults source.old) (S.faults source.new) }
+    ensures source_stands { (result.last ≡ End.Stopped Cause.Read)
+        ⊎ (result.last ≡ End.Stopped Cause.Write)
+        ⊎ (result.last ≡ End.Stopped Cause.Memory) ⊎ (S.faults source.new ≡ S.faults source.old) }
+    ensures write_fault { result.last ≡ End.Stopped Cause.Write
+        → FaultCountRose (K.faults sink.old) (K.faults sink.new) }
+    ensures sink_stands { (result.last ≡ End.Stopped Cause.Write)
+        ⊎ (K.faults sink.new ≡ K.faults sink.old) }
 {
-    let summary = Summary {
-        lines: 0,
-        calls: 0,
-        commits: 0,
-        rollbacks: 0,
-        version: 1,
+    let _mark: Option<Mark> = None;
+    match core_in_memory(alloc, opening) {
+        Ok(core) => replay(alloc, core, Outlet::Written, source, sink).0,
+        Err(Memory) => {
+            let trail = Trail::new(alloc, opening.entries);
+            end_unread(alloc, Cause::Memory, trail, sink)
+        }
+    }
+}
+
+/// The core of a session over zero pages in memory, before any event.
+fn core_in_memory(alloc: Global, opening: &Opening) -> Result<Core<MemVault>, Memory>
+    requires { IsOpening opening.now }
+    ensures stands { IfOk result (λ core. Represents (start_of opening.now) core) }
+    ensures calls { IfOk result (λ core. core.calls ≡ 0) }
+{
+    let vault = MemVault::new(alloc, opening.pages)?;
+    match Core::new(alloc, vault, opening.entries, opening.cache) {
+        Ok(core) => Ok(core),
+        Err((_vault, memory)) => Err(memory),
+    }
+}
+
+/// Replays the lines of the source over a core, from where it stands, and hands its vault back.
+fn replay<V: Vault, S: Source, K: Sink>(
+    alloc: Global,
+    core: Core<V>,
+    outlet: Outlet,
+    source: &mut S,
+    sink: &mut K,
+) -> (Ended, V)
+    requires { core.calls ≡ 0 }
+    ensures run { IsTrue V.tells → (start : State) → Represents start core
+        → RunsReplay start outlet (V.faults core.vault) (V.faults result.1)
+        (S.left source.old) (S.left source.new) (K.taken sink.old)
+        (K.taken sink.new) result.0.answers.items result.0.trail.items result.0.last }
+    ensures end { IsDone result.0.last → IfSome (S.left source.new) (λ left. left ≡ []) }
+    ensures status { result.0.status ≡ status_of_end result.0.last }
+    ensures read_fault { result.0.last ≡ End.Stopped Cause.Read
+        → FaultCountRose (S.faults source.old) (S.faults source.new) }
+    ensures source_stands { (result.0.last ≡ End.Stopped Cause.Read)
+        ⊎ (result.0.last ≡ End.Stopped Cause.Write)
+        ⊎ (result.0.last ≡ End.Stopped Cause.Memory) ⊎ (S.faults source.new ≡ S.faults source.old) }
+    ensures write_fault { result.0.last ≡ End.Stopped Cause.Write
+        → FaultCountRose (K.faults sink.old) (K.faults sink.new) }
+    ensures sink_stands { (result.0.last ≡ End.Stopped Cause.Write)
+        ⊎ (K.faults sink.new ≡ K.faults sink.old) }
+{
+    let _mark: Option<Mark> = None;
+    let mut line = match Line::new(alloc) {
+        Ok(line) => line,
+        Err(Memory) => {
+            let (hub, vault) = core.into_parts();
+            let ended = end_unread(alloc, Cause::Memory, hub.into_trail(), sink);
+            return (ended, vault);
+        }
     };
-    let last = write_ending(alloc, sink, meant, &summary);
+    let mut replay = Replay::new(alloc, core, outlet);
+    let said = match take_lines(alloc, &mut replay, &mut line, source, sink) {
+        Ok(lines) => End::Done(replay.summary(lines)),
+        Err(cause) => End::Stopped(cause),
+    };
+    let last = write_ending(alloc, sink, said);
+    let (answers, trail, vault) = replay.into_parts();
+    let ended = Ended {
+        status: last.status(),
+        answers,
+        trail,
+        last,
+    };
+    (ended, vault)
+}
+
+/// Ends a call that has read and answered nothing, with the trail that there is.
+fn end_unread<K: Sink>(alloc: Global, cause: Cause, trail: Trail, sink: &mut K) -> Ended
+    ensures ends { EndsWith (End.Stopped cause) result.last (K.taken sink.old) (K.taken sink.new) }
+    ensures answers { result.answers.items ≡ [] }
+    ensures trail { result.trail.items ≡ trail.items }
+    ensures status { result.status ≡ status_of_end result.last }
+    ensures fault { result.last ≡ End.Stopped Cause.Write
+        → (cause ≡ Cause.Write) ⊎ FaultCountRose (K.faults sink.old) (K.faults sink.new) }
+    ensures sink_stands { (result.last ≡ End.Stopped Cause.Write)
+        ⊎ (K.faults sink.new ≡ K.faults sink.old) }
+    ensures end { (result.last ≡ End.Stopped cause) ⊎ (result.last ≡ End.Stopped Cause.Write)
+        ⊎ (result.last ≡ End.Stopped Cause.Memory) }
+{
+    let last = write_ending(alloc, sink, End::Stopped(cause));
     Ended {
         status: last.status(),
         answers: Answers::new(alloc),
-        trail: Trail::new(alloc, MOST_ENTRIES),
+        trail,
         last,
     }
 }

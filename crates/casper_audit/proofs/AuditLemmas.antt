@@ -3,7 +3,9 @@ use Rattle.std.specs.Prelude.{option_and_then, MatchBool, IsErrAnd}
 use Rattle.std.proofs.lemmas.Bool.{true≢false}
 use Rattle.casper_io.specs.Lines.{TakesLine, TakesEnd}
 use Rattle.casper_io.specs.declared.lines.Next.TheVariants as next
+use Rattle.casper_io.specs.Reading.{most_lines, ReadsLines}
 use Rattle.casper_io.specs.Told.{WhereTold}
+use Rattle.casper_io.proofs.LinesRead.{reads_more}
 use Rattle.casper_trail.proofs.Values.{fold_append}
 use Rattle.casper_audit.specs.declared.auditor.Auditor.{Auditor}
 use Rattle.casper_audit.specs.declared.verdict.Verdict.{Verdict}
@@ -12,25 +14,20 @@ use Rattle.casper_audit.specs.declared.verdict.AuditFault.{AuditFault}
 use Rattle.casper_audit.specs.declared.verdict.AuditFault.TheVariants as fault
 use Rattle.casper_audit.specs.Lines.{line_parsed}
 use Rattle.casper_audit.specs.Text.{TrailText, no_text, after_line, text_of}
-use Rattle.casper_audit.specs.Reading.{most_lines, ReadsLines}
 use Rattle.casper_audit.specs.Verdicts.{IsAudit}
-use Rattle.casper_audit.specs.Auditor.{Stands, StandsAfter, TakesParsed, NoLine}
+use Rattle.casper_audit.specs.Auditor.{HasTaken, StandsAfter, TakesParsed, NoLine}
 
--- an auditor stands behind so many lines
+-- an auditor stands after so many lines
 pub record Behind (first left : Option (List ℕ)) (count : ℕ) (auditor : Auditor) : Type 0 where
   pub lines : List (List ℕ)
   pub counted : length lines ≡ count
   pub reads : ReadsLines first lines left
   pub text : TrailText
   pub says : text_of lines ≡ Some text
-  pub stands : Stands text auditor
+  pub stands : HasTaken text auditor
 
-pub behind_none : (left : Option (List ℕ)) (auditor : Auditor) → Stands no_text auditor → Behind left left 0 auditor
+pub behind_none : (left : Option (List ℕ)) (auditor : Auditor) → HasTaken no_text auditor → Behind left left 0 auditor
 behind_none left auditor stands = record { lines = []; counted = refl; reads = refl; text = no_text; says = refl; stands = stands }
-
-reads_more : (first : Option (List ℕ)) (lines : List (List ℕ)) (left : Option (List ℕ)) (line : List ℕ) (last : Option (List ℕ)) → ReadsLines first lines left → WhereTold left last (TakesLine line) → ReadsLines first (lines ++ line ∷ []) last
-reads_more first [] left line last same takes = (last, subst (λ (f : Option (List ℕ)). WhereTold f last (TakesLine line)) (sym same) takes, refl)
-reads_more first (one ∷ lines) left line last reads takes = (reads.0, reads.1, reads_more reads.0 lines left line last reads.2 takes)
 
 pub behind_more : {first left last : Option (List ℕ)} {count : ℕ} {auditor auditor' : Auditor} (line : List ℕ) (behind : Behind first left count auditor) → WhereTold left last (TakesLine line)
     → StandsAfter (line_parsed line) behind.text auditor' → Behind first last (count + 1) auditor'

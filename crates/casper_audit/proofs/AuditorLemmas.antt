@@ -18,13 +18,13 @@ use Rattle.casper_audit.specs.declared.verdict.AuditRule.{AuditRule}
 use Rattle.casper_audit.specs.Text.{TrailText, base_of, last_word, is_before}
 use Rattle.casper_audit.specs.Keeps.{IsLedger}
 use Rattle.casper_audit.specs.Verdicts.{IsBad, IsGood}
-use Rattle.casper_audit.specs.Auditor.{Stands, StandsAfter}
+use Rattle.casper_audit.specs.Auditor.{HasTaken, StandsAfter}
 
 last_more : (words : List BaseWord) (last : BaseWord) → last_word (words ++ last ∷ []) ≡ Some last
 last_more words last = fold_append (λ (found : Option BaseWord) (word : BaseWord). Some word) None words (last ∷ [])
 
 -- a word before the trail was taken
-base_taken_by : (words : List BaseWord) (items : List Item) (word : BaseWord) (auditor : Auditor) (ledger : Ledger) → Stands (record { words = words; items = items }) auditor
+base_taken_by : (words : List BaseWord) (items : List Item) (word : BaseWord) (auditor : Auditor) (ledger : Ledger) → HasTaken (record { words = words; items = items }) auditor
     → auditor.items ≤ 0 → option_map_or (λ last. is_before last word) auditor.last true ≡ true
     → ((list : List BaseWord) → IsLedger (base_of list) [] auditor.ledger → IsLedger (base_of (list ++ word ∷ [])) [] ledger)
     → StandsAfter (parsed.Base word) (record { words = words; items = items }) (record { ledger = ledger; last = Some word; items = auditor.items; entries = auditor.entries })
@@ -42,14 +42,14 @@ base_taken_by words [] word auditor ledger stands none above sets = record {
 }
 base_taken_by words (first ∷ items) word auditor ledger stands none above sets = absurd (omega (arith, stands.items))
 
-pub base_taken : (text : TrailText) (word : BaseWord) (auditor : Auditor) (ledger : Ledger) → Stands text auditor
+pub base_taken : (text : TrailText) (word : BaseWord) (auditor : Auditor) (ledger : Ledger) → HasTaken text auditor
     → auditor.items ≤ 0 → option_map_or (λ last. is_before last word) auditor.last true ≡ true
     → ((list : List BaseWord) → IsLedger (base_of list) [] auditor.ledger → IsLedger (base_of (list ++ word ∷ [])) [] ledger)
     → StandsAfter (parsed.Base word) text (record { ledger = ledger; last = Some word; items = auditor.items; entries = auditor.entries })
 base_taken text word auditor ledger stands none above sets = base_taken_by text.words text.items word auditor ledger stands none above sets
 
 -- an item that is good was taken
-pub item_taken : (text : TrailText) (next : Item) (auditor : Auditor) (ledger : Ledger) (count : ℕ) (found : Option AuditRule) → Stands text auditor → found ≡ None
+pub item_taken : (text : TrailText) (next : Item) (auditor : Auditor) (ledger : Ledger) (count : ℕ) (found : Option AuditRule) → HasTaken text auditor → found ≡ None
     → MatchOption found (IsGood (base_of text.words) text.items next) (λ rule. IsBad rule (base_of text.words) text.items next)
     → (IsExactNext text.items next → IsLedger (base_of text.words) (text.items ++ next ∷ []) ledger)
     → count ≡ entry_count (text.items ++ next ∷ [])

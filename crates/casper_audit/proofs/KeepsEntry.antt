@@ -29,7 +29,7 @@ nothing_there x h = cc
 abbrev pub together : (ℕ → List ℕ) → ℕ → ℕ → List ℕ
 together group who writer = crew_of (λ client. has_member client (group who) || has_member client (group writer))
 
--- the associations behind an entry, by the writer of its page
+-- the associations after an entry, by the writer of its page
 abbrev pub linked_by : (ℕ → List ℕ) → ℕ → Option ℕ → ℕ → List ℕ
 linked_by group who None client = group client
 linked_by group who (Some writer) client = cond (has_member client (together group who writer)) (together group who writer) (group client)
@@ -98,7 +98,7 @@ module _ {base : List (List ℕ)} {items : List Item} {live stable : ℕ → ℕ
   before_or_last : (write : Entry) → Contains (open_entries (items ++ item.Entry entry ∷ [])) write → Contains (open_entries items) write ⊎ (entry ≡ write)
   before_or_last write inside = contains_push (open_entries items) entry write (subst (λ (entries : List Entry). Contains entries write) open_after inside)
 
-  -- what is kept behind an entry
+  -- what is kept after an entry
   pub keeps_entry : {live' stable' : ℕ → ℕ → ℕ} {writer' : ℕ → Option ℕ} {opened' : ℕ → ℕ → ℕ → Bool} {group' : ℕ → List ℕ}
       → ((page word : ℕ) → live' page word ≡ cond (writes_word page word entry) entry.value (live page word))
       → ((page word : ℕ) → stable' page word ≡ stable page word)

@@ -102,7 +102,7 @@ module _ {base : List (List ℕ)} {items : List Item} {live stable : ℕ → ℕ
         let kept = contains_kept (λ (entry : Entry). not (has_member entry.who (members_of mark))) (open_entries items) write (subst (λ (entries : List Entry). Contains entries write) open_now inside) in
         (kept.0, not_false (has_member write.who (members_of mark)) kept.1)
 
-    -- the value that a word of theirs has behind the mark
+    -- the value that a word of theirs has after the mark
     abbrev decided : ℕ → ℕ → ℕ
     decided page word = cond (commits mark) (live page word) (stable page word)
 
@@ -116,7 +116,7 @@ module _ {base : List (List ℕ)} {items : List Item} {live stable : ℕ → ℕ
         let after = theirs_after_rollback base items lost members page word pass in
         (keeps.stable_is page word below within ∙ sym after.0, keeps.stable_is page word below within ∙ sym after.1)
 
-    -- what is kept behind a mark
+    -- what is kept after a mark
     pub keeps_mark : {live' stable' : ℕ → ℕ → ℕ} {writer' : ℕ → Option ℕ} {opened' : ℕ → ℕ → ℕ → Bool} {group' : ℕ → List ℕ}
         → ((page word : ℕ) → live' page word ≡ cond (theirs page word) (cond (commits mark) (live page word) (stable page word)) (live page word))
         → ((page word : ℕ) → stable' page word ≡ cond (theirs page word) (cond (commits mark) (live page word) (stable page word)) (stable page word))

@@ -73,7 +73,7 @@ among_cond : (b : Bool) (places : List Place) (place : Place) → is_among (cond
 among_cond true places place = refl
 among_cond false places place = refl
 
--- what is kept behind a mark that was carried out
+-- what is kept after a mark that was carried out
 pub ledger_settled : (base : List (List ℕ)) (items : List Item) (mark : Mark) (before between after : Ledger) → IsExactMark items mark
     → Settles (commits mark) (is_theirs before (members_of mark) 32) (has_theirs before (members_of mark) 32) before between
     → Empties (λ who. has_member who (members_of mark)) before between

@@ -22,7 +22,7 @@ le_false a b h = grind (arith, nat_tests)
 le_true : (a b : ℕ) → a ≤ b → nat_le a b ≡ true
 le_true a b h = grind (arith, nat_tests)
 
--- the members behind others, by the word that stands next
+-- the members after others, by the word that stands next
 next_word : (line : List ℕ) (words : List Span) (at last : ℕ) (members : List ℕ) (d : Span) → at < length words
     → members_behind last members (map (word_at line) (drop at words)) ≡ members_behind last members (word_at line (slice_index_or words at d) ∷ map (word_at line) (drop (at + 1) words))
 next_word line words at last members d below =

@@ -32,7 +32,7 @@ ledger_first ledger values writers places groups = record {
   groups = λ client is. groups client is ∙ sym (alone_without_entries [] client (λ entry inside same. omega (arith, inside.1)));
 }
 
--- behind one word more before the trail
+-- after one word more before the trail
 pub ledger_base : (words : List BaseWord) (last : BaseWord) (before after : Ledger) → SetsBoth (record { page = last.page; word = last.word }) last.value before after
     → IsLedger (base_of words) [] before → IsLedger (base_of (words ++ last ∷ [])) [] after
 ledger_base words last before after sets keeps = record {

@@ -16,8 +16,8 @@ use Rattle.casper_audit.specs.Text.{TrailText, base_of, last_word, after_parsed}
 use Rattle.casper_audit.specs.Keeps.{IsLedger}
 use Rattle.casper_audit.specs.Verdicts.{IsBad}
 
--- an auditor stands behind a text of which no item is bad
-pub record Stands (text : TrailText) (auditor : Auditor) : Type 0 where
+-- an auditor stands after a text of which no item is bad
+pub record HasTaken (text : TrailText) (auditor : Auditor) : Type 0 where
   pub ledger : IsLedger (base_of text.words) text.items auditor.ledger
   pub last : auditor.last ≡ last_word text.words
   pub items : auditor.items ≡ length text.items
@@ -25,11 +25,11 @@ pub record Stands (text : TrailText) (auditor : Auditor) : Type 0 where
   pub legal : IsLegal (base_of text.words) text.items
   pub exact : HasExactMarks text.items
 
--- the auditor stands behind one line more
+-- the auditor stands after one line more
 pub record StandsAfter (said : Parsed) (text : TrailText) (auditor : Auditor) : Type 0 where
   pub after : TrailText
   pub is : after_parsed text said ≡ Some after
-  pub stands : Stands after auditor
+  pub stands : HasTaken after auditor
 
 -- the item that a line says is the first bad one
 pub record FoundBad (said : Parsed) (text : TrailText) (at : ℕ) (bad : Item → Type 0) : Type 0 where
@@ -38,7 +38,7 @@ pub record FoundBad (said : Parsed) (text : TrailText) (at : ℕ) (bad : Item �
   pub place : at ≡ length text.items
   pub is_bad : bad next
 
--- what a line of this number said was taken behind a text, or refused
+-- what a line of this number said was taken after a text, or refused
 abbrev pub TakesParsed : ℕ → Parsed → TrailText → Auditor → Result (Option Verdict) AuditFault → Type 0
 TakesParsed number said text auditor (Ok None) = StandsAfter said text auditor
 TakesParsed number said text auditor (Ok (Some (verdict.Legal entries))) = ⊥

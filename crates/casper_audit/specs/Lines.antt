@@ -25,7 +25,7 @@ page_in word = option_and_then (below 262144) (number_below (2 ^ 32) word)
 abbrev pub place_in : List ℕ → Option ℕ
 place_in word = option_and_then (below 512) (number_below (2 ^ 32) word)
 
--- the members that words name behind others, the greatest of which is given: each is greater than the one before it
+-- the members that words name after others, the greatest of which is given: each is greater than the one before it
 abbrev pub members_behind : ℕ → List ℕ → List (List ℕ) → Option (List ℕ)
 members_behind last members [] = if last == 0 then None else Some members
 members_behind last members (word ∷ words) =
@@ -70,7 +70,7 @@ abbrev pub rollback_in : List (List ℕ) → Option Parsed
 rollback_in [] = None
 rollback_in (client ∷ rest) = option_and_then (λ lost. option_map (λ members. parsed.Item (item.Mark (Rollback lost members))) (members_in rest)) (client_in client)
 
--- what a verb and the words behind it say
+-- what a verb and the words after it say
 abbrev pub stated_by : List ℕ → List (List ℕ) → Option Parsed
 stated_by verb rest =
     if bytes_eq verb (codes "b") then base_in rest else

@@ -1,5 +1,6 @@
 use Rattle.std.specs.Prelude.{◌≡◌, ◌≢◌, ℕ, ◌+◌, ◌<◌, ◌≤◌, List, [], length, Option, Some, Result, Ok, Err}
 use Rattle.casper_io.specs.Lines.{TakesLine, TakesEnd, TakesPart}
+use Rattle.casper_io.specs.Reading.{most_lines, ReadsLines, TakesAny}
 use Rattle.casper_io.specs.Told.{WhereTold}
 use Rattle.casper_trail.specs.declared.item.Item.{Item}
 use Rattle.casper_trail.specs.declared.item.Item.TheVariants as item
@@ -18,7 +19,7 @@ use Rattle.casper_audit.specs.declared.verdict.AuditFault.{AuditFault}
 use Rattle.casper_audit.specs.declared.verdict.AuditFault.TheVariants as fault
 use Rattle.casper_audit.specs.Lines.{line_parsed}
 use Rattle.casper_audit.specs.Text.{TrailText, base_of, text_of}
-use Rattle.casper_audit.specs.Reading.{most_lines, ReadsLines, TakesAny, TakesBadLine}
+use Rattle.casper_audit.specs.Reading.{TakesBadLine}
 
 -- an item after others is bad: a read has not the value of its word over the entries that are live before it, or the members of a mark
 -- are not the association, in the items before it, of its lead or of the client that was lost
@@ -36,7 +37,7 @@ IsBad rule.Rollback base before (item.Mark (Rollback lost members)) = members �
 abbrev pub IsGood : List (List ℕ) → List Item → Item → Type 0
 IsGood base before next = IsLegalNext base before next × IsExactNext before next
 
--- a line stands next whose item is bad behind the text before it
+-- a line stands next whose item is bad after the text before it
 pub record TakesBadItem (which : AuditRule) (text : TrailText) (before after : Option (List ℕ)) : Type 0 where
   pub line : List ℕ
   pub takes : WhereTold before after (TakesLine line)
@@ -44,7 +45,7 @@ pub record TakesBadItem (which : AuditRule) (text : TrailText) (before after : O
   pub says : line_parsed line ≡ parsed.Item next
   pub bad : IsBad which (base_of text.words) text.items next
 
--- behind so many lines that say a text, the audit ended with this result
+-- after so many lines that say a text, the audit ended with this result
 abbrev pub EndsWith : Result Verdict AuditFault → TrailText → ℕ → Option (List ℕ) → Option (List ℕ) → Type 0
 EndsWith (Ok (verdict.Legal entries)) text count before after = (entries ≡ entry_count text.items) × WhereTold before after (TakesEnd [])
 EndsWith (Ok (verdict.FirstBad at which)) text count before after = (at ≡ length text.items) × (count < most_lines) × TakesBadItem which text before after
@@ -54,7 +55,7 @@ EndsWith (Err (fault.BadLine number)) text count before after = (number ≡ coun
 
 -- an audit from the bytes left before to those left after it, with its result
 pub record IsAudit (before after : Option (List ℕ)) (result : Result Verdict AuditFault) : Type 0 where
-  -- the lines that were read whole, and what was left behind them
+  -- the lines that were read whole, and what was left after them
   pub lines : List (List ℕ)
   pub rest : Option (List ℕ)
   pub reads : ReadsLines before lines rest

@@ -2,7 +2,7 @@ ghost use Rattle.std.specs.Prelude.{◌≡◌, ◌+◌, ◌<◌, ◌≤◌, true
 ghost use Rattle.std.specs.Option.{option_map_or};
 ghost use Rattle.casper_audit.specs.Lines.{line_parsed, IsInRange};
 ghost use Rattle.casper_audit.specs.Text.{TrailText, no_text, is_before as stands_before};
-ghost use Rattle.casper_audit.specs.Auditor.{Stands, TakesParsed};
+ghost use Rattle.casper_audit.specs.Auditor.{HasTaken, TakesParsed};
 
 use crate::ledger::Ledger;
 use crate::parse::{BaseWord, Parsed, parse_line};
@@ -11,7 +11,7 @@ use casper_trail::{Item, Mark};
 use casper_words::Memory;
 use std::alloc::Global;
 
-/// What is known behind the lines of a trail's text of which none is bad.
+/// What is known after the lines of a trail's text of which none is bad.
 #[derive(Drop)]
 pub(crate) struct Auditor {
     ledger: Ledger,
@@ -24,7 +24,7 @@ pub(crate) struct Auditor {
 impl Auditor {
     /// Before any line.
     pub(crate) fn new(alloc: Global) -> Result<Auditor, Memory>
-        ensures { IfOk result (λ auditor. Stands no_text auditor) }
+        ensures { IfOk result (λ auditor. HasTaken no_text auditor) }
     {
         let ledger = Ledger::new(alloc)?;
         Ok(Auditor {
@@ -52,7 +52,8 @@ impl Auditor {
         requires short { length line.now ≤ 1024 }
         requires items { self.old.items < 1048576 }
         requires entries { self.old.entries < 1048576 }
-        ensures takes { (text : TrailText) → Stands text self.old → TakesParsed number (line_parsed line.now) text self.new result }
+        ensures takes { (text : TrailText) → HasTaken text self.old
+            → TakesParsed number (line_parsed line.now) text self.new result }
         ensures items { self.new.items ≤ self.old.items + 1 }
         ensures entries { self.new.entries ≤ self.old.entries + 1 }
     {
@@ -68,7 +69,8 @@ impl Auditor {
     /// Takes a word before the trail: before all items, and rising.
     fn take_base(&mut self, number: u32, word: &BaseWord) -> Result<Option<Verdict>, AuditFault>
         requires { IsInRange (Parsed.Base word.now) }
-        ensures takes { (text : TrailText) → Stands text self.old → TakesParsed number (Parsed.Base word.now) text self.new result }
+        ensures takes { (text : TrailText) → HasTaken text self.old
+            → TakesParsed number (Parsed.Base word.now) text self.new result }
         ensures items { self.new.items ≡ self.old.items }
         ensures entries { self.new.entries ≡ self.old.entries }
     {
@@ -80,7 +82,7 @@ impl Auditor {
         Ok(None)
     }
 
-    /// Whether a word stands behind the last one before the trail.
+    /// Whether a word stands after the last one before the trail.
     fn rises(&self, word: BaseWord) -> bool
         ensures { result ≡ option_map_or (λ last. stands_before last word) self.now.last true }
     {
@@ -95,7 +97,8 @@ impl Auditor {
         requires range { IsInRange (Parsed.Item item) }
         requires items { self.old.items < 1048576 }
         requires entries { self.old.entries < 1048576 }
-        ensures takes { (text : TrailText) → Stands text self.old → TakesParsed number (Parsed.Item item) text self.new result }
+        ensures takes { (text : TrailText) → HasTaken text self.old
+            → TakesParsed number (Parsed.Item item) text self.new result }
         ensures items { self.new.items ≤ self.old.items + 1 }
         ensures entries { self.new.entries ≤ self.old.entries + 1 }
     {

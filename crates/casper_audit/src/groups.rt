@@ -36,7 +36,8 @@ impl Groups {
     /// Makes the associations of two clients one.
     pub(crate) fn unite(&mut self, one: Who, other: Who)
         ensures { (client : ℕ) → IsClient client → group_in self.new client
-            ≡ cond (has_member client (joint self.old one other)) (joint self.old one other) (group_in self.old client) }
+            ≡ cond (has_member client (joint self.old one other)) (joint self.old one other)
+            (group_in self.old client) }
     {
         let all = self.of(one).union(self.of(other));
         for below in 0..Who::MOST {

@@ -54,7 +54,8 @@ impl Ledger {
     /// Gives a word its value before the trail.
     pub(crate) fn set_base(&mut self, base: BaseWord) -> Result<(), Memory>
         requires { IsInRange (Parsed.Base base) }
-        ensures { OnOk result ((words : List TextWord) → IsLedger (base_of words) [] self.old → IsLedger (base_of (words ++ base ∷ [])) [] self.new) }
+        ensures { OnOk result ((words : List TextWord) → IsLedger (base_of words) [] self.old
+            → IsLedger (base_of (words ++ base ∷ [])) [] self.new) }
     {
         let BaseWord { page, word, value } = base;
         self.set_both(Place { page: page.0, word }, value)
@@ -71,11 +72,12 @@ impl Ledger {
         self.words.set(place, values)
     }
 
-    /// The rule that an item breaks behind the items.
+    /// The rule that an item breaks after the items.
     pub(crate) fn rule_broken(&self, item: &Item) -> Option<AuditRule>
         requires { IsInRange (Parsed.Item item.now) }
         ensures { (base : List (List ℕ)) (items : List TrailItem) → IsLedger base items self.now
-            → MatchOption result (IsGood base items item.now) (λ rule. IsBad rule base items item.now) }
+            → MatchOption result (IsGood base items item.now)
+            (λ rule. IsBad rule base items item.now) }
     {
         match item {
             Item::Entry(entry) => {
@@ -93,7 +95,8 @@ impl Ledger {
     fn is_wrong(&self, entry: Entry) -> bool
         requires { (entry.page < 262144) × (entry.word < 512) }
         ensures { (base : List (List ℕ)) (items : List TrailItem) → IsLedger base items self.now
-            → MatchBool result (¬ IsRightAfter base (live_entries items) entry) (IsRightAfter base (live_entries items) entry) }
+            → MatchBool result (¬ IsRightAfter base (live_entries items) entry)
+            (IsRightAfter base (live_entries items) entry) }
     {
         let Entry {
             op,
@@ -115,10 +118,11 @@ impl Ledger {
         self.words.at(Place { page, word }).live
     }
 
-    /// The rule that a mark breaks behind the items.
+    /// The rule that a mark breaks after the items.
     fn mark_broken(&self, mark: &Mark) -> Option<AuditRule>
         ensures { (base : List (List ℕ)) (items : List TrailItem) → IsLedger base items self.now
-            → MatchOption result (IsExactMark items mark.now) (λ rule. IsBad rule base items (Item.Mark mark.now)) }
+            → MatchOption result (IsExactMark items mark.now)
+            (λ rule. IsBad rule base items (Item.Mark mark.now)) }
     {
         match mark {
             Mark::Commit { lead, members } => {
@@ -141,7 +145,8 @@ impl Ledger {
     /// Adds an item that breaks no rule.
     pub(crate) fn record(&mut self, item: &Item) -> Result<(), Memory>
         requires { IsInRange (Parsed.Item item.now) }
-        ensures { OnOk result ((base : List (List ℕ)) (items : List TrailItem) → IsExactNext items item.now → IsLedger base items self.old
+        ensures { OnOk result ((base : List (List ℕ)) (items : List TrailItem)
+            → IsExactNext items item.now → IsLedger base items self.old
             → IsLedger base (items ++ item.now ∷ []) self.new) }
     {
         match item {
@@ -153,7 +158,8 @@ impl Ledger {
     /// Adds an entry: its client is linked with one that has an open write on its page.
     fn add(&mut self, entry: Entry) -> Result<(), Memory>
         requires { IsInRange (Parsed.Item (Item.Entry entry)) }
-        ensures { OnOk result ((base : List (List ℕ)) (items : List TrailItem) → IsLedger base items self.old
+        ensures { OnOk result ((base : List (List ℕ)) (items : List TrailItem)
+            → IsLedger base items self.old
             → IsLedger base (items ++ Item.Entry entry ∷ []) self.new) }
     {
         let Entry {
@@ -198,7 +204,8 @@ impl Ledger {
 
     /// Ends the open writes of the members of a mark, and makes each of them alone.
     fn settle(&mut self, mark: &Mark) -> Result<(), Memory>
-        ensures { OnOk result ((base : List (List ℕ)) (items : List TrailItem) → IsExactMark items mark.now → IsLedger base items self.old
+        ensures { OnOk result ((base : List (List ℕ)) (items : List TrailItem)
+            → IsExactMark items mark.now → IsLedger base items self.old
             → IsLedger base (items ++ Item.Mark mark.now ∷ []) self.new) }
     {
         let members = members_of(mark);
@@ -209,7 +216,9 @@ impl Ledger {
 
     /// Ends the open writes of clients.
     fn settle_members(&mut self, members: Crew, committed: bool) -> Result<(), Memory>
-        ensures settles { OnOk result (Settles committed (is_theirs self.old members 32) (has_theirs self.old members 32) self.old self.new) }
+        ensures settles { OnOk result
+            (Settles committed (is_theirs self.old members 32)
+            (has_theirs self.old members 32) self.old self.new) }
         ensures empties { OnOk result (Empties (λ who. has_member who members) self.old self.new) }
     {
         for below in 0..Who::MOST {
@@ -220,9 +229,13 @@ impl Ledger {
 
     /// Ends the open writes of a client, where it is a member.
     fn settle_member(&mut self, members: Crew, who: Who, committed: bool) -> Result<(), Memory>
-        ensures settles { OnOk result (Settles committed (λ place. has_member who members && is_among (places_in self.old.opened who) place)
-            (λ page. has_member who members && list_any (on_page page) (places_in self.old.opened who)) self.old self.new) }
-        ensures empties { OnOk result (Empties (λ client. has_member who members && (client == who)) self.old self.new) }
+        ensures settles { OnOk result
+            (Settles committed
+            (λ place. has_member who members && is_among (places_in self.old.opened who) place)
+            (λ page. has_member who members && list_any (on_page page)
+            (places_in self.old.opened who)) self.old self.new) }
+        ensures empties { OnOk result
+            (Empties (λ client. has_member who members && (client == who)) self.old self.new) }
     {
         if members.has(who) {
             self.settle_client(who, committed)
@@ -243,7 +256,9 @@ impl Ledger {
 
     /// Ends the open writes of words.
     fn settle_places(&mut self, places: &[Place], committed: bool) -> Result<(), Memory>
-        ensures settles { OnOk result (Settles committed (is_among places.now) (λ page. list_any (on_page page) places.now) self.old self.new) }
+        ensures settles { OnOk result
+            (Settles committed (is_among places.now)
+            (λ page. list_any (on_page page) places.now) self.old self.new) }
         ensures opened { OnOk result (self.new.opened ≡ self.old.opened) }
     {
         for place in places {
@@ -254,7 +269,8 @@ impl Ledger {
 
     /// Ends the open writes of a word: it keeps the value that they gave it, or has the one from before them again.
     fn settle_place(&mut self, place: Place, committed: bool) -> Result<(), Memory>
-        ensures settles { OnOk result (Settles committed (same_place place) (λ page. on_page page place) self.old self.new) }
+        ensures settles { OnOk result
+            (Settles committed (same_place place) (λ page. on_page page place) self.old self.new) }
         ensures opened { OnOk result (self.new.opened ≡ self.old.opened) }
     {
         let values = self.words.at(place);

@@ -30,7 +30,8 @@ impl Opened {
     /// Adds a place to those of a client.
     pub(crate) fn push(&mut self, who: Who, place: Place) -> Result<(), Memory>
         ensures { OnOk result ((client : ℕ) → IsClient client → places_in self.new client
-            ≡ cond (client == who) (places_in self.old who ++ place ∷ []) (places_in self.old client)) }
+            ≡ cond (client == who) (places_in self.old who
+            ++ place ∷ []) (places_in self.old client)) }
     {
         let places = &mut self.places[(who.number() - 1) as usize];
         places.push(place)?;
@@ -40,7 +41,8 @@ impl Opened {
     /// Takes away the places of a client.
     pub(crate) fn take(&mut self, alloc: Global, who: Who) -> Vec<Place>
         ensures taken { result.items ≡ places_in self.old who }
-        ensures left { (client : ℕ) → IsClient client → places_in self.new client ≡ cond (client == who) [] (places_in self.old client) }
+        ensures left { (client : ℕ) → IsClient client
+            → places_in self.new client ≡ cond (client == who) [] (places_in self.old client) }
     {
         mem::replace(
             &mut self.places[(who.number() - 1) as usize],

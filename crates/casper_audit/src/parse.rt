@@ -4,14 +4,11 @@ ghost use Rattle.casper_audit.specs.Lines.{client_in, page_in, place_in, members
 
 use casper_text::{Span, number, small_number, words_of};
 use casper_trail::{Entry, Item, Mark};
-use casper_words::{Crew, Memory, Op, Page, Who};
+use casper_words::{Crew, Frame, Memory, Op, Page, Who};
 use std::alloc::Global;
 
 /// How many pages a store may have in a trail's text.
 const MOST_PAGES: u32 = 262_144;
-
-/// How many words a page has.
-const PAGE_WORDS: u32 = 512;
 
 /// The value that a word of a page had before the trail.
 #[derive(Clone, Copy, Debug, PartialEq, Eq)]
@@ -64,7 +61,7 @@ fn parse_words(line: &[u8], spans: &[Span]) -> Parsed
     statement(line, verb.of(line), rest).unwrap_or(Parsed::Bad)
 }
 
-/// What stands behind a verb.
+/// What stands after a verb.
 fn statement(line: &[u8], verb: &[u8], rest: &[Span]) -> Option<Parsed>
     requires { All (IsWithin line.now) rest.now }
     ensures { result ≡ stated_by verb.now (map (word_at line.now) rest.now) }
@@ -205,7 +202,7 @@ fn place_of(word: &[u8]) -> Option<u32>
     ensures { result ≡ place_in word.now }
 {
     let place = small_number(word)?;
-    if place < PAGE_WORDS {
+    if place < Frame::WORDS {
         Some(place)
     } else {
         None

@@ -1,5 +1,5 @@
-ghost use Rattle.std.specs.Prelude.{◌≡◌, ◌+◌, ◌<◌, ◌≤◌, [], length, Err, MatchResult, MatchBool};
-ghost use Rattle.casper_words.specs.Count.{Rose};
+ghost use Rattle.std.specs.Prelude.{◌≡◌, ◌⊎◌, ◌+◌, ◌<◌, ◌≤◌, [], length, Err, MatchResult, MatchBool};
+ghost use Rattle.casper_words.specs.Count.{FaultCountRose};
 ghost use Rattle.casper_io.specs.Lines.{TakesLine, TakesEnd};
 ghost use Rattle.casper_io.specs.Told.{WhereTold};
 ghost use Rattle.casper_audit.specs.Verdicts.{IsAudit};
@@ -7,12 +7,9 @@ ghost use Rattle.casper_audit.specs.Auditor.{NoLine};
 
 use crate::auditor::Auditor;
 use crate::{AuditFault, Verdict};
-use casper_io::{IoFault, Line, Next, Source, next_line};
+use casper_io::{IoFault, Line, MOST_LINES, Next, Source, next_line};
 use casper_trail::Mark;
 use std::alloc::Global;
-
-/// The greatest number of lines of one input.
-const MOST_LINES: u32 = 1_048_576;
 
 /// Audits the text of a trail, line by line, up to its end or to the first line or item that is bad. `Legal` comes where the whole
 /// text was read, and its trail is legal with exact marks over the words before it; `FirstBad` for the first bad item.
@@ -20,11 +17,14 @@ const MOST_LINES: u32 = 1_048_576;
 /// # Errors
 ///
 /// `BadLine` for the first line that is no line of a trail's text in its place, or is too long, or is one too many. `Read` only where
-/// the source failed. After `FirstBad` and `BadLine` nothing behind that line was taken; after `BadLine` for too long a line, what
+/// the source failed. After `FirstBad` and `BadLine` nothing after that line was taken; after `BadLine` for too long a line, what
 /// `next_line` takes of one.
 pub fn audit<S: Source>(alloc: Global, source: &mut S) -> Result<Verdict, AuditFault>
     ensures audit { IsAudit (S.left source.old) (S.left source.new) result }
-    ensures fault { result ≡ Err AuditFault.Read → Rose (S.faults source.old) (S.faults source.new) }
+    ensures fault { result ≡ Err AuditFault.Read
+        → FaultCountRose (S.faults source.old) (S.faults source.new) }
+    ensures source_stands { (result ≡ Err AuditFault.Read)
+        ⊎ (S.faults source.new ≡ S.faults source.old) }
     ensures never_falls { S.faults source.old ≤ S.faults source.new }
 {
     let _mark: Option<Mark> = None;
@@ -47,10 +47,14 @@ pub fn audit<S: Source>(alloc: Global, source: &mut S) -> Result<Verdict, AuditF
 /// Reads the next line into `line`, and tells whether there is one. The line would be of this number.
 fn read_line<S: Source>(source: &mut S, line: &mut Line, number: u32) -> Result<bool, AuditFault>
     ensures next { MatchResult result
-        (λ found. MatchBool found (WhereTold (S.left source.old) (S.left source.new) (TakesLine line.new))
+        (λ found. MatchBool found
+        (WhereTold (S.left source.old) (S.left source.new) (TakesLine line.new))
         (WhereTold (S.left source.old) (S.left source.new) (TakesEnd [])))
         (λ fault. NoLine fault number (S.left source.old) (S.left source.new)) }
-    ensures fault { result ≡ Err AuditFault.Read → Rose (S.faults source.old) (S.faults source.new) }
+    ensures fault { result ≡ Err AuditFault.Read
+        → FaultCountRose (S.faults source.old) (S.faults source.new) }
+    ensures source_stands { (result ≡ Err AuditFault.Read)
+        ⊎ (S.faults source.new ≡ S.faults source.old) }
     ensures never_falls { S.faults source.old ≤ S.faults source.new }
     ensures short { length line.new ≤ 1024 }
 {

@@ -7,7 +7,7 @@ use Rattle.std.proofs.lemmas.List.Elements.{All-push}
 use Rattle.casper_io.specs.declared.lines.Next.TheVariants as next
 use Rattle.casper_io.specs.Lines.{newline, IsShortLine, TakesLine, TakesEnd, TakesTooLong, HasCut, IsCutOnce, EachIsCutOnce}
 
--- fronts of one length are equal, and so is what stands behind them
+-- fronts of one length are equal, and so is what stands after them
 pub append-same : (front front' back back' : List ℕ) → front ++ back ≡ front' ++ back' → length front ≡ length front'
     → (front ≡ front') × (back ≡ back')
 append-same front front' back back' same lengths = (
@@ -117,7 +117,7 @@ short_line-push line byte bytes room plain = record {
   short = simp length-append (omega arith);
 }
 
--- the cut of a part of a line and of the bytes behind it
+-- the cut of a part of a line and of the bytes after it
 pub cut_from : (rest line : List ℕ) → IsShortLine line → HasCut (line ++ rest)
 cut_from [] [] bytes = (next.End, [], [], record { empty = refl; nothing = refl; rest = refl })
 cut_from [] (byte ∷ line) bytes =

@@ -48,13 +48,13 @@ WhereTold-then (Some told) None after follows first second = absurd first
 WhereTold-then (Some told) (Some middle) None follows first second = second
 WhereTold-then (Some told) (Some middle) (Some rest) follows first second = follows told middle rest first second
 
--- a front of the bytes, and the part behind it, are a longer front
+-- a front of the bytes, and the part after it, are a longer front
 pub take-more : (bytes : List ℕ) (done count : ℕ) → done + count ≤ length bytes
     → take done bytes ++ take count (take (length bytes - done) (drop done bytes)) ≡ take (done + count) bytes
 take-more bytes done count within =
     same_lists _ _ (search (rules, places)) (λ k d h. grind (arith, places))
 
--- a front of the bytes was taken, and then the part behind it
+-- a front of the bytes was taken, and then the part after it
 pub append_known-more : (first between last : Option (List ℕ)) (bytes : List ℕ) (done count : ℕ) → done + count ≤ length bytes
     → between ≡ append_known first (take done bytes)
     → last ≡ append_known between (take count (take (length bytes - done) (drop done bytes)))

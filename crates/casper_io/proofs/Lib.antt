@@ -1,4 +1,5 @@
 pub mod Cut
 pub mod Known
+pub mod LinesRead
 pub mod Moved
 pub mod Reading

@@ -18,7 +18,7 @@ mod std_source;
 pub use fault::IoFault;
 pub use laws::each_is_cut_once;
 pub use line::Line;
-pub use lines::{Next, next_line};
+pub use lines::{MOST_LINES, Next, next_line};
 pub use mem_sink::MemSink;
 pub use mem_source::MemSource;
 pub use sink::{Sink, put_all};

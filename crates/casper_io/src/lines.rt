@@ -1,10 +1,13 @@
 ghost use Rattle.std.specs.Prelude.{◌≡◌, ◌≤◌, [], ◌∷◌, IfOk, MatchOption, OnOk, OnErr};
 ghost use Rattle.std.specs.Io.KnownBytes.{prepend_known};
-ghost use Rattle.casper_words.specs.Count.{Rose};
+ghost use Rattle.casper_words.specs.Count.{FaultCountRose};
 ghost use Rattle.casper_io.specs.Lines.{IsShortLine, Takes};
 ghost use Rattle.casper_io.specs.Told.{WhereTold, AreBothEmpty};
 
 use crate::{IoFault, Line, Source};
+
+/// The greatest number of lines of one input.
+pub const MOST_LINES: u32 = 1_048_576;
 
 /// The byte that ends a line.
 const NEWLINE: u8 = b'\n';
@@ -20,7 +23,7 @@ pub enum Next {
     TooLong,
 }
 
-/// Reads the next line of the source into `line`, without its newline. The last line needs no newline. No byte behind
+/// Reads the next line of the source into `line`, without its newline. The last line needs no newline. No byte after
 /// the newline is taken. It takes no memory.
 ///
 /// After `End` the line is empty, after `TooLong` it has the first 1,024 of the 1,025 bytes taken, and after a fault it has
@@ -28,7 +31,7 @@ pub enum Next {
 pub fn next_line<S: Source>(source: &mut S, line: &mut Line) -> Result<Next, IoFault>
     ensures takes { WhereTold (S.left source.old) (S.left source.new) (Takes result line.new) }
     ensures short { IsShortLine line.new }
-    ensures counted { OnErr result (Rose (S.faults source.old) (S.faults source.new)) }
+    ensures counted { OnErr result (FaultCountRose (S.faults source.old) (S.faults source.new)) }
     ensures uncounted { OnOk result (S.faults source.new ≡ S.faults source.old) }
     ensures never_falls { S.faults source.old ≤ S.faults source.new }
 {
@@ -49,7 +52,7 @@ fn read_byte<S: Source>(source: &mut S) -> Result<Option<u8>, IoFault>
         (WhereTold (S.left source.old) (S.left source.new) AreBothEmpty)
         (λ byte. S.left source.old ≡ prepend_known (byte ∷ []) (S.left source.new))) }
     ensures kept { OnErr result (S.left source.new ≡ S.left source.old) }
-    ensures counted { OnErr result (Rose (S.faults source.old) (S.faults source.new)) }
+    ensures counted { OnErr result (FaultCountRose (S.faults source.old) (S.faults source.new)) }
     ensures uncounted { OnOk result (S.faults source.new ≡ S.faults source.old) }
     ensures never_falls { S.faults source.old ≤ S.faults source.new }
 {

@@ -1,6 +1,6 @@
 ghost use Rattle.std.specs.Prelude.{◌≡◌, ◌||◌, ℕ, ◌+◌, ◌<◌, ◌≤◌, List, [], ◌++◌, Option, Some, Bool, nat_lt, length, take, is_err, IfOk, OnOk, OnErr};
 ghost use Rattle.std.specs.Io.KnownBytes.{append_known};
-ghost use Rattle.casper_words.specs.Count.{Rose};
+ghost use Rattle.casper_words.specs.Count.{FaultCountRose};
 ghost use Rattle.casper_io.specs.Memory.{fails_next, after_call, after_fault};
 
 use crate::failing::FailingCalls;
@@ -35,7 +35,8 @@ impl MemSink {
     pub fn new(alloc: Global, room: u32, fails: &[u64]) -> Result<MemSink, Memory>
         ensures taken { IfOk result (λ sink. sink.taken ≡ []) }
         ensures room { IfOk result (λ sink. sink.room ≡ room) }
-        ensures failing { IfOk result (λ sink. sink.failing ≡ record { fails = fails.now; calls = 0; faults = 0 }) }
+        ensures failing { IfOk result (λ sink. sink.failing
+            ≡ record { fails = fails.now; calls = 0; faults = 0 }) }
     {
         let failing = FailingCalls::new(alloc, fails)?;
         let room = room as usize;
@@ -71,9 +72,11 @@ impl Sink for MemSink {
         ensures err { OnErr result (self.new.failing ≡ after_fault self.old.failing) }
         ensures count { IfOk result (λ count. count ≤ length from.now) }
         ensures moves { IfOk result (λ count. 0 < length from.now → 0 < count) }
-        ensures moved { IfOk result (λ count. Some self.new.taken ≡ append_known (Some self.old.taken) (take count from.now)) }
+        ensures moved { IfOk result (λ count. Some self.new.taken
+            ≡ append_known (Some self.old.taken) (take count from.now)) }
         ensures kept { OnErr result (Some self.new.taken ≡ Some self.old.taken) }
-        ensures counted { OnErr result (Rose self.old.failing.faults self.new.failing.faults) }
+        ensures counted { OnErr result
+            (FaultCountRose self.old.failing.faults self.new.failing.faults) }
         ensures uncounted { OnOk result (self.new.failing.faults ≡ self.old.failing.faults) }
         ensures never_falls { self.old.failing.faults ≤ self.new.failing.faults }
     {

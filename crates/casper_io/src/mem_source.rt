@@ -1,6 +1,6 @@
 ghost use Rattle.std.specs.Prelude.{◌≡◌, ◌↔◌, ℕ, ◌<◌, ◌≤◌, List, [], Option, Some, Bool, length, take, drop, min, is_err, IfOk, OnOk, OnErr, IfSome};
 ghost use Rattle.std.specs.Io.KnownBytes.{prepend_known};
-ghost use Rattle.casper_words.specs.Count.{Rose};
+ghost use Rattle.casper_words.specs.Count.{FaultCountRose};
 ghost use Rattle.casper_io.specs.Memory.{fails_next, after_call, after_fault};
 
 use crate::failing::FailingCalls;
@@ -33,7 +33,8 @@ impl MemSource {
     /// A source that has these bytes left, and was never read.
     pub fn new(alloc: Global, bytes: &[u8], fails: &[u64]) -> Result<MemSource, Memory>
         ensures left { IfOk result (λ source. source.left ≡ bytes.now) }
-        ensures failing { IfOk result (λ source. source.failing ≡ record { fails = fails.now; calls = 0; faults = 0 }) }
+        ensures failing { IfOk result (λ source. source.failing
+            ≡ record { fails = fails.now; calls = 0; faults = 0 }) }
     {
         let failing = FailingCalls::new(alloc, fails)?;
         let bytes = Vec::from_slice(alloc, bytes)?;
@@ -58,11 +59,13 @@ impl Source for MemSource {
         ensures ok { OnOk result (self.new.failing ≡ after_call self.old.failing) }
         ensures err { OnErr result (self.new.failing ≡ after_fault self.old.failing) }
         ensures count { IfOk result (λ count. count ≤ length into.new) }
-        ensures moved { IfOk result (λ count. Some self.old.left ≡ prepend_known (take count into.new) (Some self.new.left)) }
+        ensures moved { IfOk result (λ count. Some self.old.left
+            ≡ prepend_known (take count into.new) (Some self.new.left)) }
         ensures end { IfOk result (λ count. 0 < length into.new →
             IfSome (Some self.old.left) (λ bytes. (count ≡ 0) ↔ (bytes ≡ []))) }
         ensures kept { OnErr result (Some self.new.left ≡ Some self.old.left) }
-        ensures counted { OnErr result (Rose self.old.failing.faults self.new.failing.faults) }
+        ensures counted { OnErr result
+            (FaultCountRose self.old.failing.faults self.new.failing.faults) }
         ensures uncounted { OnOk result (self.new.failing.faults ≡ self.old.failing.faults) }
         ensures never_falls { self.old.failing.faults ≤ self.new.failing.faults }
     {

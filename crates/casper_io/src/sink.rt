@@ -1,6 +1,6 @@
 ghost use Rattle.std.specs.Prelude.{◌≡◌, ℕ, List, Option, ◌<◌, ◌≤◌, length, take, IfOk, OnOk, OnErr};
 ghost use Rattle.std.specs.Io.KnownBytes.{append_known};
-ghost use Rattle.casper_words.specs.Count.{Rose};
+ghost use Rattle.casper_words.specs.Count.{FaultCountRose};
 ghost use Rattle.casper_io.specs.Told.{TakesFront};
 
 use crate::IoFault;
@@ -21,9 +21,10 @@ pub trait Sink {
     fn write(&mut self, from: &[u8]) -> Result<usize, IoFault>
         ensures count { IfOk result (λ count. count ≤ length from.now) }
         ensures moves { IfOk result (λ count. 0 < length from.now → 0 < count) }
-        ensures moved { IfOk result (λ count. taken self.new ≡ append_known (taken self.old) (take count from.now)) }
+        ensures moved { IfOk result (λ count. taken self.new
+            ≡ append_known (taken self.old) (take count from.now)) }
         ensures kept { OnErr result (taken self.new ≡ taken self.old) }
-        ensures counted { OnErr result (Rose (faults self.old) (faults self.new)) }
+        ensures counted { OnErr result (FaultCountRose (faults self.old) (faults self.new)) }
         ensures uncounted { OnOk result (faults self.new ≡ faults self.old) }
         ensures never_falls { faults self.old ≤ faults self.new };
 }
@@ -33,7 +34,7 @@ pub trait Sink {
 pub fn put_all<K: Sink>(sink: &mut K, bytes: &[u8]) -> Result<(), IoFault>
     ensures all { OnOk result (K.taken sink.new ≡ append_known (K.taken sink.old) bytes.now) }
     ensures part { OnErr result (TakesFront (K.taken sink.old) (K.taken sink.new) bytes.now) }
-    ensures counted { OnErr result (Rose (K.faults sink.old) (K.faults sink.new)) }
+    ensures counted { OnErr result (FaultCountRose (K.faults sink.old) (K.faults sink.new)) }
     ensures uncounted { OnOk result (K.faults sink.new ≡ K.faults sink.old) }
     ensures never_falls { K.faults sink.old ≤ K.faults sink.new }
 {

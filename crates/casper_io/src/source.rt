@@ -1,6 +1,6 @@
 ghost use Rattle.std.specs.Prelude.{◌≡◌, ℕ, List, [], Option, ◌<◌, ◌≤◌, ◌↔◌, length, take, IfOk, IfSome, OnOk, OnErr};
 ghost use Rattle.std.specs.Io.KnownBytes.{prepend_known};
-ghost use Rattle.casper_words.specs.Count.{Rose};
+ghost use Rattle.casper_words.specs.Count.{FaultCountRose};
 
 use crate::IoFault;
 
@@ -19,11 +19,12 @@ pub trait Source {
     /// means that no byte is left. Where the read fails, the bytes left stay. The count of failed reads rises then alone.
     fn read(&mut self, into: &mut [u8]) -> Result<usize, IoFault>
         ensures count { IfOk result (λ count. count ≤ length into.new) }
-        ensures moved { IfOk result (λ count. left self.old ≡ prepend_known (take count into.new) (left self.new)) }
+        ensures moved { IfOk result (λ count. left self.old
+            ≡ prepend_known (take count into.new) (left self.new)) }
         ensures end { IfOk result (λ count. 0 < length into.new →
             IfSome (left self.old) (λ bytes. (count ≡ 0) ↔ (bytes ≡ []))) }
         ensures kept { OnErr result (left self.new ≡ left self.old) }
-        ensures counted { OnErr result (Rose (faults self.old) (faults self.new)) }
+        ensures counted { OnErr result (FaultCountRose (faults self.old) (faults self.new)) }
         ensures uncounted { OnOk result (faults self.new ≡ faults self.old) }
         ensures never_falls { faults self.old ≤ faults self.new };
 }

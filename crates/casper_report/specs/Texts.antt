@@ -21,7 +21,7 @@ word_line word number = joined (word ∷ codes " " ∷ decimal number ∷ codes 
 abbrev pub pair_line : List ℕ → ℕ → ℕ → List ℕ
 pair_line word first second = joined (word ∷ codes " " ∷ decimal first ∷ codes " " ∷ decimal second ∷ codes "\n" ∷ [])
 
--- the frames that a commit needs and those that are free, behind a word, as a line
+-- the frames that a commit needs and those that are free, after a word, as a line
 abbrev pub frames_line : List ℕ → ℕ → ℕ → List ℕ
 frames_line word need free = joined (word ∷ codes " need " ∷ decimal need ∷ codes " free " ∷ decimal free ∷ codes "\n" ∷ [])
 

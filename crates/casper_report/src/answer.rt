@@ -103,7 +103,8 @@ fn crew_text(alloc: Global, word: &str, crew: Crew) -> Result<String, AllocError
 fn push_member(text: &mut String, crew: Crew, number: u32) -> Result<(), AllocError>
     requires least { 1 ≤ number }
     requires most { number ≤ 32 }
-    ensures text { OnOk result (string_bytes text.new ≡ string_bytes text.old ++ (if has_member number crew then 32 ∷ decimal number else [])) }
+    ensures text { OnOk result (string_bytes text.new
+        ≡ string_bytes text.old ++ (if has_member number crew then 32 ∷ decimal number else [])) }
     ensures crew { IsCrew crew }
 {
     let Some(who) = Who::new(number) else {

@@ -1,5 +1,5 @@
 use crate::replaying::{ROOM, replayed, words_of};
-use casper_app::{Cause, run};
+use casper_app::{Cause, End, run};
 use casper_io::{Line, MemSink, MemSource, Next, next_line};
 use casper_space::Answer;
 use casper_words::{Op, Who};
@@ -71,7 +71,8 @@ fn words(rt: HostRuntime) -> Result<(), Fail> {
         ("replay mem:8 --trail", 10),
         ("run mem:8", 10),
         ("gen 0 2 2", 10),
-        ("audit", 10),
+        ("audit", 0),
+        ("audit s", 2),
         ("check u", 10),
     ];
     for (words, status) in table {
@@ -161,7 +162,7 @@ fn the_next_line_is_still_there(rt: HostRuntime) -> Result<(), Fail> {
         let mut source = MemSource::new(rt.alloc(), ROW, &[])?;
         let mut sink = MemSink::new(rt.alloc(), ROOM, &[fails])?;
         let ended = run(rt.alloc(), &words, &mut source, &mut sink);
-        assert_eq!(rt; ended.last, Cause::Write, "at {fails}");
+        assert_eq!(rt; ended.last, End::Stopped(Cause::Write), "at {fails}");
         let mut line = Line::new(rt.alloc())?;
         assert_eq!(rt; next_line(&mut source, &mut line), Ok(next), "at {fails}");
         assert_eq!(rt; line.bytes(), bytes, "at {fails}");
@@ -177,7 +178,7 @@ fn what_stands_at_the_end(rt: HostRuntime) -> Result<(), Fail> {
     let mut source = MemSource::new(rt.alloc(), input, &[])?;
     let mut sink = MemSink::new(rt.alloc(), ROOM, &[])?;
     let ended = run(rt.alloc(), &words, &mut source, &mut sink);
-    assert_eq!(rt; ended.last, Cause::Done);
+    assert!(rt; matches!(ended.last, End::Done(_)));
     let answers = [Answer::Joined, Answer::Ok, Answer::Value(17), Answer::Ok];
     assert_eq!(rt; ended.answers.as_slice(), answers.as_slice());
     let who = Who::new(1).ok_or("a client")?;

@@ -1,9 +1,9 @@
-use Rattle.casper_app.proofs.SessionLemmas.{sessions_run_the_machine, lines_name_clients, sessions_are_legal}
+use Rattle.casper_app.proofs.SessionLemmas.{unfailing_sessions, lines_name_clients, sessions_are_legal}
 use Rattle.casper_app.proofs.CallLemmas.{sessions_keep_calls}
 use Rattle.casper_app.proofs.laws.session_laws.Goals as goal
 
 pub returns-clause-machine : goal.returns-clause-machine
-returns-clause-machine c = sessions_run_the_machine
+returns-clause-machine c = unfailing_sessions
 
 pub returns-clause-clients : goal.returns-clause-clients
 returns-clause-clients c = lines_name_clients

@@ -1,54 +1,37 @@
 use Rattle.std.proofs.Common.{◌+◌, ◌∙◌, arith, Ok, Err, refl, inl, inr}
-use Rattle.casper_app.specs.Session.{at_start}
-use Rattle.casper_app.proofs.ReadingLemmas.{stands_first, stands_more, reading_ended, reading_at_most, reading_refused, input_at}
+use Rattle.casper_app.specs.Reading.{IsReading}
+use Rattle.casper_app.proofs.ReadingLemmas.{stands_first, stands_more, reading_failed, reading_failed_last, reading_refused, input_at, is_line, err_is}
 use Rattle.casper_app.proofs.lines.take_lines.Goals as goal
 
 pub loop-lines-init : goal.loop-lines-init
-loop-lines-init g c = (
-  λ pages at. (at_start pages, at, stands_first pages _ _),
-  omega (arith, c.requires),
-  refl,
-  refl,
-)
+loop-lines-init g c = (stands_first g.V.Vault.tells g.V.Vault.faults _ _ c.args.replay.now c.requires, refl, refl)
 
-pub returns-in-Some-clause-reading : goal.returns-in-Some-clause-reading
-returns-in-Some-clause-reading g c pages at =
-    let before = c.loop-lines.invariant.0 pages at in
-    (before.0, before.1, reading_ended pages c.loop-lines.lines _ _ _ _ _ before.0 c.in-Some.said before.2 (omega (arith, c.loop-lines-test.true)) c.in-Some.ensures.next)
+pub returns-in_err-read_line-clause-reading : goal.returns-in_err-read_line-clause-reading
+returns-in_err-read_line-clause-reading g c =
+    err_is c.from_residual.result c.in_err-read_line.field-0.0
+    (IsReading g.V.Vault.tells g.V.Vault.faults (g.S.Source.left c.args.source.now) (g.S.Source.left c.read_line.new.source) (g.K.Sink.taken c.args.sink.now) (g.K.Sink.taken c.loop-lines.sink) c.args.replay.now c.loop-lines.replay)
+    c.from_residual.ensures.1
+    (reading_failed c.loop-lines.invariant.0 c.in_err-read_line.field-0.0 (omega (arith, c.loop-lines-test.true)) c.in_err-read_line.ensures.next)
 
-pub returns-clause-reading : goal.returns-clause-reading
-returns-clause-reading g c pages at =
-    let before = c.loop-lines.invariant.0 pages at in (
-      before.0,
-      before.1,
-      reading_at_most pages c.loop-lines.lines _ _ _ _ _ before.0 c.read_line-2.new.line c.read_line-2.result c.unwrap_or-said.result
-          before.2 (omega (arith, c.loop-lines-test.false, c.loop-lines.auto.lines-end)) c.read_line-2.ensures.next c.unwrap_or-said.ensures,
-    )
-
-pub returns-in-Err-clause-reading : goal.returns-in-Err-clause-reading
-returns-in-Err-clause-reading g c pages at =
-    let before = c.loop-lines.invariant.0 pages at in
-    let taken = c.in-Err.ensures.takes before.0 before.1 in (
-      taken.0,
-      taken.1,
-      reading_refused pages c.loop-lines.lines _ _ _ _ _ _ before.0 taken.0 c.read_line.new.line c.in-Err.said
-          before.2 c.loop-lines-test.true
-          (rw c.in_default.is at c.read_line.ensures.next)
-          (input_at (c.loop-lines.lines + 1) _ _ before.0 taken.0 _ _ (Err c.in-Err.said) c.bytes.ensures.bytes taken.2),
-    )
+pub returns-in_err-take_line-clause-reading : goal.returns-in_err-take_line-clause-reading
+returns-in_err-take_line-clause-reading g c =
+    err_is c.from_residual-in_err-take_line.result c.in_err-take_line.field-0.0
+    (IsReading g.V.Vault.tells g.V.Vault.faults (g.S.Source.left c.args.source.now) (g.S.Source.left c.read_line.new.source) (g.K.Sink.taken c.args.sink.now) (g.K.Sink.taken c.take_line.new.sink) c.args.replay.now c.take_line.new.self)
+    c.from_residual-in_err-take_line.ensures.1
+    (reading_refused _ _ c.take_line.new.self c.read_line.new.line c.loop-lines.invariant.0 (is_line _ _ c.in_ok-read_line.field-0 c.if-not-branch.false c.in_ok-read_line.ensures.next) c.in_err-take_line.field-0.0 c.loop-lines-test.true
+    (input_at g.V.Vault.tells g.V.Vault.faults (c.loop-lines.lines + 1) c.bytes.result.now c.read_line.new.line c.loop-lines.replay c.take_line.new.self _ _ (Err c.in_err-take_line.field-0.0) c.bytes.ensures.bytes c.in_err-take_line.ensures.takes))
 
 pub loop-lines-preserved : goal.loop-lines-preserved
 loop-lines-preserved g c = (
-  λ pages at.
-      let before = c.loop-lines.invariant.0 pages at in
-      let taken = c.in_default-take_line.ensures.takes before.0 before.1 in
-      let input = input_at (c.loop-lines.lines + 1) _ _ before.0 taken.0 _ _ (Ok tt) c.bytes.ensures.bytes taken.2 in (
-        taken.0,
-        taken.1,
-        stands_more pages c.loop-lines.lines _ _ _ _ _ _ before.0 taken.0 c.read_line.new.line
-            before.2 (rw c.in_default.is at c.read_line.ensures.next) input.0 input.1 input.2,
-      ),
-  omega (arith, c.take_line.ensures.calls, c.loop-lines.invariant.1),
-  (elim c.read_line.ensures.source_stands [ inl ended ↦ (let none = ended in cc) | inr same ↦ same ]) ∙ c.loop-lines.invariant.2,
-  (elim c.in_default-take_line.ensures.sink_stands [ inl failed ↦ (let none = failed in cc) | inr same ↦ same ]) ∙ c.loop-lines.invariant.3,
+  stands_more _ _ c.take_line.new.self c.read_line.new.line c.loop-lines.invariant.0 (is_line _ _ c.in_ok-read_line.field-0 c.if-not-branch.false c.in_ok-read_line.ensures.next)
+      (input_at g.V.Vault.tells g.V.Vault.faults (c.loop-lines.lines + 1) c.bytes.result.now c.read_line.new.line c.loop-lines.replay c.take_line.new.self _ _ (Ok tt) c.bytes.ensures.bytes c.in_ok-take_line.ensures.takes),
+  (elim c.in_ok-read_line.ensures.source_stands [ inl failed ↦ (let none = failed in cc) | inr same ↦ same ]) ∙ c.loop-lines.invariant.1,
+  (elim c.in_ok-take_line.ensures.sink_stands [ inl failed ↦ (let none = failed in cc) | inr same ↦ same ]) ∙ c.loop-lines.invariant.2,
 )
+
+pub returns-in_err-read_line-2-clause-reading : goal.returns-in_err-read_line-2-clause-reading
+returns-in_err-read_line-2-clause-reading g c =
+    err_is c.from_residual-in_err-read_line-2.result c.in_err-read_line-2.field-0.0
+    (IsReading g.V.Vault.tells g.V.Vault.faults (g.S.Source.left c.args.source.now) (g.S.Source.left c.read_line-2.new.source) (g.K.Sink.taken c.args.sink.now) (g.K.Sink.taken c.loop-lines.sink) c.args.replay.now c.loop-lines.replay)
+    c.from_residual-in_err-read_line-2.ensures.1
+    (reading_failed_last c.loop-lines.invariant.0 c.in_err-read_line-2.field-0.0 (omega (arith, c.loop-lines-test.false, c.loop-lines.auto.lines-end)) c.in_err-read_line-2.ensures.next)

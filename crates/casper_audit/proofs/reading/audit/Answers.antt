@@ -1,4 +1,4 @@
-use Rattle.std.proofs.Common.{◌+◌, ℕ, List, Err, arith, subst}
+use Rattle.std.proofs.Common.{◌+◌, ◌∙◌, ℕ, List, Err, arith, subst, refl, inl, inr}
 use Rattle.casper_audit.specs.declared.verdict.AuditFault.TheVariants as fault
 use Rattle.casper_audit.specs.Lines.{line_parsed}
 use Rattle.casper_audit.specs.Auditor.{TakesParsed}
@@ -30,7 +30,7 @@ loop-lines-init g c = (
   behind_none _ c.in_ok-auditor.auditor c.in_ok-auditor.ensures,
   omega (arith, c.in_ok-auditor.ensures.items),
   omega (arith, c.in_ok-auditor.ensures.entries),
-  omega arith,
+  refl,
 )
 
 pub loop-lines-preserved : goal.loop-lines-preserved
@@ -40,5 +40,5 @@ loop-lines-preserved g c = (
       (c.in_ok-verdict.ensures.takes c.loop-lines.invariant.0.text c.loop-lines.invariant.0.stands)),
   omega (arith, c.take_line.ensures.items, c.loop-lines.invariant.1),
   omega (arith, c.take_line.ensures.entries, c.loop-lines.invariant.2),
-  omega (arith, c.read_line.ensures.never_falls, c.loop-lines.invariant.3),
+  (elim c.in_ok-read_line.ensures.source_stands [ inl failed ↦ (let none = failed in cc) | inr same ↦ same ]) ∙ c.loop-lines.invariant.3,
 )

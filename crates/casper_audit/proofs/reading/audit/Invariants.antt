@@ -1,4 +1,4 @@
-use Rattle.std.proofs.Common.{◌≤◌}
+use Rattle.std.proofs.Common.{◌≡◌, ◌≤◌}
 use Rattle.casper_audit.proofs.AuditLemmas.{Behind}
 use Rattle.casper_audit.proofs.reading.audit.Given as goal
 
@@ -7,4 +7,4 @@ invariant-loop-lines g l =
     Behind (g.S.Source.left l.fn.source) (g.S.Source.left l.source) l.lines l.auditor
     × (l.auditor.items ≤ l.lines)
     × (l.auditor.entries ≤ l.lines)
-    × (g.S.Source.faults l.fn.source ≤ g.S.Source.faults l.source)
+    × (g.S.Source.faults l.source ≡ g.S.Source.faults l.fn.source)

@@ -1,0 +1,112 @@
+use Rattle.std.proofs.Common.{◌≡◌, ℕ, Bool, true, false, cond, List, [], ◌∷◌, ◌++◌, Option, Some, None, Result, Ok, Err, ap, sym, subst, ◌∙◌, refl, replicate}
+use Rattle.std.specs.Prelude.{is_some, IsErrAnd}
+use Rattle.std.specs.Io.KnownBytes.{append_known}
+use Rattle.std.proofs.lemmas.List.{append-nil}
+use Rattle.casper_io.proofs.Known.{append_known-nil}
+use Rattle.casper_io.specs.Told.{TakesFront}
+use Rattle.casper_report.specs.Texts.{answer_line, answer_lines}
+use Rattle.casper_space.specs.declared.answer.Answer.{Answer}
+use Rattle.casper_disk.specs.MemVault.{HeldPages, held_image}
+use Rattle.casper_model.specs.declared.event.Event.{Event}
+use Rattle.casper_model.specs.declared.event.Event.TheVariants as event
+use Rattle.casper_model.specs.State.{State, start, zero_start}
+use Rattle.casper_model.specs.Vault.{VaultState}
+use Rattle.casper_core.specs.CoreView.{CoreView}
+use Rattle.casper_core.specs.Represents.{Represents}
+use Rattle.casper_core.specs.Stepping.{IsBuilt}
+use Rattle.casper_app.specs.declared.cause.Cause.{Cause}
+use Rattle.casper_app.specs.declared.cause.Cause.TheVariants as cause
+use Rattle.casper_app.specs.declared.outlet.Outlet.{Outlet}
+use Rattle.casper_app.specs.declared.replay.Replay.{Replay}
+use Rattle.casper_app.specs.declared.schedule.Parsed.TheVariants as parsed
+use Rattle.casper_app.specs.Carrying.{MakesStep}
+use Rattle.casper_app.specs.Grammar.{IsEvent}
+use Rattle.casper_app.specs.Lines.{event_of_parsed, event_of_line, IsTakenAs, IsTaken}
+use Rattle.casper_app.specs.Outlet.{writes, kept_of, written_of}
+use Rattle.casper_app.specs.Schedule.{parsed_line}
+use Rattle.casper_app.specs.Taking.{CarriesEvent, CarriesLine, WritesAnswer, WritesForLine, TakesEvent, TakesInput}
+
+-- there is a turn for each event of a built line
+pub built : (asked : Event) → IsEvent asked → IsBuilt asked
+built (event.Join who) is = tt
+built (event.Read who page word) is = tt
+built (event.Write who page word value) is = tt
+built (event.Acquire who wants) is = tt
+built (event.Serve who) is = tt
+built (event.Depart who) is = tt
+built (event.Stabilise who) is = absurd is
+built (event.WriteOut lead) is = absurd is
+built (event.Finish lead) is = absurd is
+built event.Settle is = absurd is
+built (event.Vanish who) is = absurd is
+built (event.Lose who) is = absurd is
+
+-- a vault in memory as it is made tells what the machine's does
+pub stands_at_start : (pages entries cache : ℕ) (vault : HeldPages) (core : CoreView HeldPages) → core.told ≡ record { image = held_image vault; version = vault.version; room = None; doubt = None }
+    → core.size ≡ pages → held_image vault ≡ replicate pages (replicate 512 0) → vault.version ≡ 1
+    → Represents (start core.told core.size entries cache) core → Represents (zero_start pages entries cache) core
+stands_at_start pages entries cache vault core told size image version stands =
+    let vaults : List (List ℕ) → ℕ → VaultState = λ i n. record { image = i; version = n; room = None; doubt = None } in
+    subst (λ (s : State). Represents s core)
+    (ap (λ (n : ℕ). start core.told n entries cache) size
+    ∙ ap (λ (v : VaultState). start v pages entries cache)
+    (told ∙ ap (vaults (held_image vault)) version ∙ ap (λ (i : List (List ℕ)). vaults i 1) image)) stands
+
+-- what was done for an event is what was done for the line that asks for it
+pub input_of_event : {V : Type 0} (tells : Bool) (faults : V → ℕ) (number : ℕ) (line : List ℕ) (asked : Event) (old new : Replay V) (before after : Option (List ℕ)) (result : Result (Unit {0}) Cause)
+    → parsed_line line ≡ parsed.Event asked → TakesEvent tells faults asked old new before after result → TakesInput tells faults number line old new before after result
+input_of_event tells faults number line asked old new before after result parses takes = record {
+  given = takes.given;
+  carries = by_given takes.given takes.carries;
+  outlet = takes.outlet;
+  kept = takes.kept;
+  writes = by_result result takes.given takes.writes;
+}
+  where
+    asks : event_of_line line ≡ Some asked
+    asks = ap event_of_parsed parses
+
+    taken : IsTaken line
+    taken = subst IsTakenAs (sym parses) tt
+
+    by_given : (given : Option Answer) → CarriesEvent tells faults asked given old.core new.core → CarriesLine tells faults line given old.core new.core
+    by_given None none = none
+    by_given (Some one) step = (asked, asks, step)
+
+    by_result : (r : Result (Unit {0}) Cause) (given : Option Answer) → WritesAnswer old.outlet given before after r → WritesForLine number line old.outlet given before after r
+    by_result (Ok done) given h = (taken, h.0 ∙ sym (ap is_some asks), h.1)
+    by_result (Err cause.Write) given h = h
+    by_result (Err cause.Memory) given h = h
+    by_result (Err cause.Usage) given h = absurd h
+    by_result (Err cause.Read) given h = absurd h
+    by_result (Err (cause.BadLine n)) given h = absurd h
+    by_result (Err (cause.Illegal at rule)) given h = absurd h
+    by_result (Err (cause.Unbuilt n)) given h = absurd h
+
+-- where answers are not written, nothing of one is
+pub unwritten : (outlet outlet' : Outlet) (given : List Answer) (taken : Option (List ℕ)) → outlet' ≡ outlet → writes outlet' ≡ false
+    → taken ≡ append_known taken (answer_lines (written_of outlet given))
+unwritten outlet outlet' given taken same not_written =
+    sym (ap (λ (test : Bool). append_known taken (answer_lines (cond test given []))) (ap writes (sym same) ∙ not_written) ∙ append_known-nil taken)
+
+-- where they are written, all of one is
+pub written_whole : (outlet outlet' : Outlet) (one : Answer) → outlet' ≡ outlet → writes outlet' ≡ true → written_of outlet (one ∷ []) ≡ one ∷ []
+written_whole outlet outlet' one same is_written = ap (λ (test : Bool). cond test (one ∷ []) []) (ap writes (sym same) ∙ is_written)
+
+pub written_text : (outlet outlet' : Outlet) (one : Answer) (text : List ℕ) (before after : Option (List ℕ)) → outlet' ≡ outlet → writes outlet' ≡ true → text ≡ answer_line one
+    → after ≡ append_known before text → after ≡ append_known before (answer_lines (written_of outlet (one ∷ [])))
+written_text outlet outlet' one text before after same is_written line all =
+    all ∙ ap (append_known before) (line ∙ sym (append-nil (answer_line one)))
+    ∙ ap (λ (told : List Answer). append_known before (answer_lines told)) (sym (written_whole outlet outlet' one same is_written))
+
+pub front_of : (before after : Option (List ℕ)) (text text' : List ℕ) → text ≡ text' → TakesFront before after text → TakesFront before after text'
+front_of before after text text' same front = subst (λ (t : List ℕ). TakesFront before after t) same front
+
+-- memory was short for the text of an answer
+pub memory_short : {V : Type 0} (tells : Bool) (faults : V → ℕ) (asked : Event) (one : Answer) (old new : Replay V) (taken : Option (List ℕ)) (result : Result (Unit {0}) Cause)
+    → IsErrAnd result (λ made. made ≡ cause.Memory) → MakesStep tells faults asked one old.core new.core → new.outlet ≡ old.outlet
+    → new.answers.items ≡ old.answers.items ++ kept_of old.outlet (one ∷ []) → TakesEvent tells faults asked old new taken taken result
+memory_short tells faults asked one old new taken (Ok done) made step same kept = absurd made
+memory_short tells faults asked one old new taken (Err said) made step same kept =
+    subst (λ (c : Cause). TakesEvent tells faults asked old new taken taken (Err c)) (sym made)
+    (record { given = Some one; carries = step; outlet = same; kept = kept; writes = refl })

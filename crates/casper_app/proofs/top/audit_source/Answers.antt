@@ -1,0 +1,29 @@
+use Rattle.std.proofs.Common.{◌∙◌, sym, ap, subst, inl, inr, ◌⊎◌, ◌≡◌}
+use Rattle.casper_app.specs.declared.cause.Cause.TheVariants as cause
+use Rattle.casper_app.specs.declared.end.End.{End}
+use Rattle.casper_app.specs.declared.end.End.TheVariants as end
+use Rattle.casper_app.proofs.RunLemmas.{audit_done, audit_read, audit_writes_not, done_meant, read_meant, audit_stands, runs_audit, end_by}
+use Rattle.casper_app.proofs.top.audit_source.Goals as goal
+
+pub returns-clause-run : goal.returns-clause-run
+returns-clause-run g c =
+    runs_audit c.audit-found.result c.end_of.result c.write_ending-last.result _ _ _ _ _ _ c.audit-found.ensures.audit c.end_of.ensures c.write_ending-last.ensures.ends
+    c.new-answers.ensures.empty c.new-trail.ensures.empty
+
+pub returns-clause-end : goal.returns-clause-end
+returns-clause-end g c done =
+    audit_done c.audit-found.result _ _ c.audit-found.ensures.audit
+    (done_meant _ c.write_ending-last.result (end_by _ _ _ c.end_of.ensures c.write_ending-last.ensures.end) done)
+
+pub returns-clause-read_fault : goal.returns-clause-read_fault
+returns-clause-read_fault g c read =
+    c.audit-found.ensures.fault (audit_read c.audit-found.result
+    (read_meant _ c.write_ending-last.result (end_by _ _ _ c.end_of.ensures c.write_ending-last.ensures.end) read))
+
+pub returns-clause-source_stands : goal.returns-clause-source_stands
+returns-clause-source_stands g c =
+    audit_stands c.audit-found.result c.write_ending-last.result _ _ (end_by _ _ _ c.end_of.ensures c.write_ending-last.ensures.end) c.audit-found.ensures.source_stands
+
+pub returns-clause-write_fault : goal.returns-clause-write_fault
+returns-clause-write_fault g c write =
+    elim (c.write_ending-last.ensures.fault write) [ inl meant ↦ absurd (audit_writes_not c.audit-found.result (sym c.end_of.ensures ∙ meant)) | inr rose ↦ rose ]
