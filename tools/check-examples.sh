@@ -1,5 +1,6 @@
 #!/usr/bin/env bash
-# Runs each schedule of examples/ over a store in memory, and compares answers and status with those that are written beside it.
+# Replays each schedule of examples/ over a store in memory, audits each trail, and compares answers and status with those that are
+# written beside it.
 # Prints `check-examples: ok N`, or what differs.
 # Usage: tools/check-examples.sh [PROGRAM], ./casper unless said otherwise, which proves and builds the program where need be.
 set -u
@@ -13,27 +14,38 @@ failed=0
 # The status that goes with a last line.
 status_of() {
     case $1 in
-        end\ *) echo 0 ;;
+        end\ * | legal\ *) echo 0 ;;
         bad\ line\ *) echo 8 ;;
+        bad\ *) echo 9 ;;
         unbuilt\ *) echo 10 ;;
         *) echo none ;;
     esac
 }
 
-for schedule in "$top"/examples/*.schedule; do
-    answers=${schedule%.schedule}.answers
+# try_example INPUT OUTPUT WORD..: the program with these words and this input.
+try_example() {
+    local input=$1 output=$2
+    shift 2
     tried=$((tried + 1))
-    "$program" replay mem:16384 <"$schedule" >"$room/answers"
-    status=$?
+    "$program" "$@" <"$input" >"$room/output"
+    local status=$?
     # Without a program no example can be run.
     case $status in 69 | 70 | 126 | 127) exit 1 ;; esac
-    if ! diff -u "$answers" "$room/answers" || [ "$status" != "$(status_of "$(tail -n 1 "$answers")")" ]; then
-        echo "check-examples: failed: $(basename "$schedule") (status $status)"
+    if ! diff -u "$output" "$room/output" || [ "$status" != "$(status_of "$(tail -n 1 "$output")")" ]; then
+        echo "check-examples: failed: $(basename "$input") (status $status)"
         failed=1
     fi
+}
+
+for schedule in "$top"/examples/*.schedule; do
+    try_example "$schedule" "${schedule%.schedule}.answers" replay mem:16384
 done
-for answers in "$top"/examples/*.answers; do
-    [ -e "${answers%.answers}.schedule" ] || { echo "check-examples: failed: $(basename "$answers") has no schedule"; failed=1; }
+for trail in "$top"/examples/*.trail; do
+    try_example "$trail" "${trail%.trail}.verdict" audit
+done
+for output in "$top"/examples/*.answers "$top"/examples/*.verdict; do
+    [ -e "${output%.answers}.schedule" ] || [ -e "${output%.verdict}.trail" ] ||
+        { echo "check-examples: failed: $(basename "$output") has no input"; failed=1; }
 done
 [ "$failed" = 0 ] || exit 1
 echo "check-examples: ok $tried"
