@@ -6,3 +6,4 @@ pub mod OpenedLaws
 pub mod Pieces
 pub mod StandingCalls
 pub mod GateCalls
+pub mod GateMoment

@@ -1,9 +1,10 @@
-ghost use Rattle.std.specs.Prelude.{◌≡◌, ◌⊎◌, ◌<◌, ◌≤◌, ℕ, Bool, false, List, IsTrue, IsErrOf, OnOk, OnErr};
+ghost use Rattle.std.specs.Prelude.{◌≡◌, ◌⊎◌, ◌<◌, ◌≤◌, ℕ, Bool, true, false, List, IsTrue, IsErrOf, OnOk, OnErr};
 ghost use Rattle.casper_words.specs.Count.{FaultCountRose};
 ghost use Rattle.casper_disk.specs.Disk.{AgreesBut, none_loose};
 ghost use Rattle.casper_root.specs.Slots.{other_slot};
 ghost use Rattle.casper_commit.specs.StandingCalls.{StandsStill, StandsStillAfter, OpensMeanwhile, OpensMeanwhileAfter, DecidesAfterOk, DecidesAfter, NextStandsAfterOk, OpensToNextAfterOk, OpensToEither};
 ghost use Rattle.casper_commit.specs.GateCalls.{SettlesAfterOk, OpensSettledAfterOk, DecidesStillAfterErr, OpensToOneOfTwo};
+ghost use Rattle.casper_commit.specs.GateMoment.{CallsGate, FailsAtGate, StandsUntilGate};
 
 use crate::{Standing, make_ready, put_body, put_gate};
 use casper_disk::{CommitFault, Disk, DiskFault};
@@ -19,6 +20,8 @@ fn prepare<D: Disk>(
 ) -> Result<(), DiskFault>
     requires { 5 ≤ D.size disk.old }
     ensures slot { standing.new.slot ≡ standing.old.slot }
+    ensures known { OnOk result (standing.new.spare_closed ≡ true) }
+    ensures settled { IsTrue D.tells → OnOk result (D.loose disk.new ≡ none_loose) }
     ensures at_gate { IsTrue D.tells →
         DecidesAfterOk result D.content D.loose standing.old body.now disk.old disk.new }
     ensures stands { IsTrue D.tells →
@@ -63,6 +66,13 @@ pub fn put_root<D: Disk>(
         standing.old body.now disk.old disk.new }
     ensures old_images { IsTrue D.tells → OpensMeanwhileAfter result CommitFault.Disk
         D.content D.loose D.moment D.images_since standing.old disk.old disk.new }
+    ensures gate_call { OnOk result (CallsGate D.leads_to D.faults (λ at_gate. IsTrue D.tells
+        → StandsUntilGate D.content D.loose D.moment D.images_since
+        standing.old disk.old at_gate disk.new) disk.old disk.new) }
+    ensures gate_call_in_doubt { IsErrOf result CommitFault.Doubt
+        → FailsAtGate D.leads_to D.faults (λ at_gate. IsTrue D.tells
+        → StandsUntilGate D.content D.loose D.moment D.images_since
+        standing.old disk.old at_gate disk.new) disk.old disk.new }
     ensures size { D.size disk.new ≡ D.size disk.old }
     ensures leads { D.leads_to disk.old disk.new }
     ensures counted { OnErr result (FaultCountRose (D.faults disk.old) (D.faults disk.new)) }

@@ -64,7 +64,7 @@ impl ShadowMap {
         ensures { into.new ≡ block_of_numbers (block_numbers (with_plan plan.now self.now) number) }
     {
         let first_page = self.blocks();
-        let first = 1024 * number;
+        let first = Maps::PAGES_EACH * number;
         let mut numbers = [0; NUMBERS];
         self.put_numbers_from(first_page + first, &mut numbers);
         put_moves(plan.pages.as_slice(), first, &mut numbers);
@@ -159,7 +159,7 @@ fn blocks_under(alloc: Global, pages: &[u32]) -> Result<Vec<u32>, Memory>
     // No block from this one on is in the list yet.
     let mut next = 0;
     for page in pages {
-        let block = *page / 1024;
+        let block = *page / Maps::PAGES_EACH;
         if block >= next {
             blocks.push(block)?;
             next = block + 1;

@@ -11,7 +11,7 @@ ghost use Rattle.casper_map.specs.Reading.{opened_map, IsRead, IsFirstBad, Stand
 use crate::ShadowMap;
 use crate::numbers::{NUMBERS, numbers_of};
 use casper_disk::Disk;
-use casper_root::{OpenFault, Roots};
+use casper_root::{Maps, OpenFault, Roots};
 use casper_words::Block;
 use std::alloc::Global;
 
@@ -40,7 +40,7 @@ impl ShadowMap {
         let numbers = roots.body.maps.as_slice();
         let blocks = numbers.len() as u32;
         let mut map = ShadowMap::new(alloc, blocks, roots.header.pages, roots.header.frames)?;
-        map.put_all(0, 0, 1024, numbers)?;
+        map.put_all(0, 0, Maps::PAGES_EACH, numbers)?;
         let mut block = Block::zero(alloc)?;
         for number in 0..blocks {
             map.read_block(disk, number, &mut block)?;
@@ -78,7 +78,7 @@ impl ShadowMap {
         };
         disk.read(5 + frame, block)?;
         let numbers = numbers_of(block);
-        let page = 1024 * number;
+        let page = Maps::PAGES_EACH * number;
         let count = NUMBERS.min((self.pages() - page) as usize);
         self.put_all(first + page, page, 1, &numbers[..count])
     }

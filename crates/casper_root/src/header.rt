@@ -14,6 +14,15 @@ pub struct Header {
 }
 
 impl Header {
+    /// The greatest number of pages.
+    pub const MOST_PAGES: u32 = 16_384;
+
+    /// The least number of frames.
+    pub const LEAST_FRAMES: u32 = 2;
+
+    /// The greatest number of frames.
+    pub const MOST_FRAMES: u32 = 65_536;
+
     /// Fills a block with the header of a store.
     pub fn to_block(&self, into: &mut Block)
         ensures { into.new ≡ header_block self.now }

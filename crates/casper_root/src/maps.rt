@@ -31,6 +31,9 @@ impl Maps {
     /// The greatest number of map blocks.
     pub const MOST: usize = 16;
 
+    /// How many pages a map block has the frames of.
+    pub const PAGES_EACH: u32 = 1024;
+
     /// The frame numbers of a list, where it has at most 16.
     pub fn new(list: &[u32]) -> Option<Maps>
         ensures exactly { IsSome result ↔ (length list.now ≤ 16) }

@@ -31,7 +31,7 @@ pub fn open_roots<D: Disk>(alloc: Global, disk: &mut D) -> Result<Roots, OpenFau
 {
     let mut block = Block::zero(alloc)?;
     let header = open_header(disk, &mut block)?;
-    let root = open_pair(disk, &mut block, header.pages.div_ceil(1024))?;
+    let root = open_pair(disk, &mut block, header.pages.div_ceil(Maps::PAGES_EACH))?;
     Ok(Roots {
         header,
         slot: root.slot,
@@ -104,7 +104,11 @@ fn header_from(block: &Block) -> Result<Header, OpenFault>
     }
     let values = header_rec().read(block);
     let (pages, frames) = (values[1] as u32, values[2] as u32);
-    if pages < 1 || pages > 16_384 || frames < 2 || frames > 65_536 {
+    if pages < 1
+        || pages > Header::MOST_PAGES
+        || frames < Header::LEAST_FRAMES
+        || frames > Header::MOST_FRAMES
+    {
         return Err(OpenFault::BadSize { pages, frames });
     }
     Ok(Header { pages, frames })

@@ -3,6 +3,7 @@ pub mod FormattingLemmas
 pub mod PieceLemmas
 pub mod WritingLemmas
 pub mod CommitLemmas
+pub mod GateLemmas
 pub mod DoubtLemmas
 pub mod SettleLemmas
 pub mod ReadLemmas

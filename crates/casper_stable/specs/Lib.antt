@@ -6,6 +6,8 @@ pub mod Opened
 pub mod Formatted
 pub mod Writing
 pub mod Doubts
+pub mod UntilGate
+pub mod Others
 pub mod OpensLemmas
 pub mod LeavesLemmas
 pub mod SoundLemmas

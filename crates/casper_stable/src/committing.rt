@@ -8,7 +8,10 @@ ghost use Rattle.casper_map.specs.Planned.{IsPlan, moved, with_plan};
 ghost use Rattle.casper_words.specs.Count.{FaultCountRose};
 ghost use Rattle.casper_stable.specs.Kept.{changes_written, image_of, next_body};
 ghost use Rattle.casper_stable.specs.Doubts.{is_doubt};
+ghost use Rattle.casper_commit.specs.GateMoment.{CallsGate, FailsAtGate};
 ghost use Rattle.casper_stable.specs.Leaves.{Leaves};
+ghost use Rattle.casper_stable.specs.Others.{OthersKeepFrames};
+ghost use Rattle.casper_stable.specs.UntilGate.{LeavesOldAlone, OldUntilGate};
 ghost use Rattle.casper_stable.specs.Sound.{IsKept, IsHeld};
 
 use crate::pieces::Written;
@@ -65,6 +68,17 @@ impl<D: Disk> Store<D> {
             (IsOldOrNewImage (image_of D.content self.old) self.old.body.seq
             (as_changes changes.now)
             (self.old.body.seq + 1)) }
+        ensures old_alone { IsTrue D.tells → IsErrOf result CommitFault.Disk → LeavesOldAlone
+            D.content D.moment D.images_since self.old self.new.disk }
+        ensures gate_call { OnOk result (CallsGate D.leads_to D.faults (λ at_gate. IsTrue D.tells
+            → OldUntilGate D.content D.loose D.moment D.images_since self.old at_gate self.new.disk)
+            self.old.disk self.new.disk) }
+        ensures gate_call_in_doubt { IsErrOf result CommitFault.Doubt
+            → FailsAtGate D.leads_to D.faults (λ at_gate. IsTrue D.tells
+            → OldUntilGate D.content D.loose D.moment D.images_since self.old at_gate self.new.disk)
+            self.old.disk self.new.disk }
+        ensures frames { OnOk result
+            (OthersKeepFrames (moved plan.pages) self.old.held self.new.held) }
         ensures size { page_count self.new.held ≡ page_count self.old.held }
         ensures room { OnOk result (room_of self.new.held
             ≡ room_after (moved plan.pages) (room_of self.old.held)) }

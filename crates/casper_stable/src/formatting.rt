@@ -89,7 +89,11 @@ fn check_sizes(header: Header, have: u32) -> Result<Header, OpenFault>
     ensures fits { OnOk result (HasRoomFor have header) }
 {
     let Header { pages, frames } = header;
-    if pages < 1 || pages > 16_384 || frames < 2 || frames > 65_536 {
+    if pages < 1
+        || pages > Header::MOST_PAGES
+        || frames < Header::LEAST_FRAMES
+        || frames > Header::MOST_FRAMES
+    {
         return Err(OpenFault::BadSize { pages, frames });
     }
     let need = 5 + frames;
@@ -105,7 +109,7 @@ fn new_found(alloc: Global, header: Header) -> Result<Found, Memory>
     ensures root { IfOk result (λ found. found.roots ≡ new_roots header) }
     ensures map { IfOk result (λ found. found.map ≡ new_map header) }
 {
-    let count = header.pages.div_ceil(1024);
+    let count = header.pages.div_ceil(Maps::PAGES_EACH);
     let map = ShadowMap::new(alloc, count, header.pages, header.frames)?;
     let block = Block::zero(alloc)?;
     let roots = new_roots(header);
@@ -117,7 +121,7 @@ fn new_roots(header: Header) -> Roots
     requires { AreSizes header }
     ensures { result ≡ new_roots header }
 {
-    let count = header.pages.div_ceil(1024) as usize;
+    let count = header.pages.div_ceil(Maps::PAGES_EACH) as usize;
     // No map block has a frame.
     let numbers = [u32::MAX; Maps::MOST];
     let Some(maps) = Maps::new(&numbers[..count]) else {

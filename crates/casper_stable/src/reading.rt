@@ -10,14 +10,11 @@ use crate::store::Store;
 use casper_disk::{Disk, DiskFault};
 use casper_words::{Frame, Page};
 
-/// How many words a page has.
-const WORDS: u32 = 512;
-
 /// Makes each word of a frame zero.
 fn clear(into: &mut Frame)
     ensures { into.new ≡ replicate 512 0 }
 {
-    for word in 0..WORDS {
+    for word in 0..Frame::WORDS {
         into.set(word, 0);
     }
 }

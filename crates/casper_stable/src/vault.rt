@@ -1,6 +1,17 @@
+ghost use Rattle.std.specs.Prelude.{◌≡◌, ◌≢◌, ◌⊎◌, ◌↔◌, ◌<◌, ◌≤◌, ℕ, All, None, Some, length, IsTrue, IsFalse, IsSome, IsErrOf, IsOkUnless, IfOk, IfErr, OnOk, OnErr};
+ghost use Rattle.std.specs.List.Sorted.{IsStrictlyIncreasing};
+ghost use Rattle.casper_words.specs.Count.{FaultCountRose};
+ghost use Rattle.casper_space.specs.Changes.{pages_of, with_changes};
+ghost use Rattle.casper_disk.specs.CommitFaults.{is_of_disk};
+ghost use Rattle.casper_disk.specs.Disk.{KeepsImages, Took};
+ghost use Rattle.casper_disk.specs.Vault.{IsOldOrNewImage, as_changes, is_worn, lacking, room_with, version_after};
+ghost use Rattle.casper_commit.specs.GateMoment.{CallsGate, FailsAtGate};
 ghost use Rattle.casper_map.specs.Mapped.{page_count};
 ghost use Rattle.casper_stable.specs.Kept.{image_of, store_room, doubt_of};
+ghost use Rattle.casper_stable.specs.KeptBy.{kept_by};
 ghost use Rattle.casper_stable.specs.Leaves.{Leaves, KeptLeadsTo};
+ghost use Rattle.casper_stable.specs.Others.{OthersKeepFrames, OthersKeepWords};
+ghost use Rattle.casper_stable.specs.UntilGate.{LeavesOldAlone, OldUntilGate};
 ghost use Rattle.casper_stable.specs.VaultLaws.{image_count, page_filled, sure_law, either_law, one_law, leaves_more, leads_itself, leads_further};
 
 use crate::Stable;
@@ -47,7 +58,73 @@ impl<D: Disk> Vault for Stable<D> {
         self.store.read_page(page, into)
     }
 
-    fn commit(&mut self, alloc: Global, changes: &[(Page, Frame)]) -> Result<u64, CommitFault> {
+    // The clauses of `Vault`, and after them what a vault over a disk knows more of its commit.
+    fn commit(&mut self, alloc: Global, changes: &[(Page, Frame)]) -> Result<u64, CommitFault>
+        requires rising { IsStrictlyIncreasing (pages_of (as_changes changes.now)) }
+        requires within { All (λ change. change.0 < page_count (kept_by self.old).held)
+            changes.now }
+        requires sure { doubt_of D.content (kept_by self.old) ≡ None }
+        ensures answer { IfOk result (λ number. number ≡ (kept_by self.new).body.seq) }
+        ensures version { OnOk result ((kept_by self.new).body.seq
+            ≡ version_after (as_changes changes.now) (kept_by self.old).body.seq) }
+        ensures image { IsTrue D.tells → OnOk result (image_of D.content (kept_by self.new)
+            ≡ with_changes (image_of D.content (kept_by self.old)) (as_changes changes.now)) }
+        ensures room { OnOk result (store_room (kept_by self.new)
+            ≡ room_with (as_changes changes.now) (store_room (kept_by self.old))) }
+        ensures doubtful { IsErrOf result CommitFault.Doubt
+            ↔ IsSome (doubt_of D.content (kept_by self.new)) }
+        ensures doubt { IsTrue D.tells → IsErrOf result CommitFault.Doubt
+            → doubt_of D.content (kept_by self.new) ≡ Some (as_changes changes.now) }
+        ensures same_version { OnErr result ((kept_by self.new).body.seq
+            ≡ (kept_by self.old).body.seq) }
+        ensures same_image { IsTrue D.tells → OnErr result
+            (image_of D.content (kept_by self.new) ≡ image_of D.content (kept_by self.old)) }
+        ensures same_room { OnErr result (store_room (kept_by self.new)
+            ≡ store_room (kept_by self.old)) }
+        ensures size { page_count (kept_by self.new).held ≡ page_count (kept_by self.old).held }
+        ensures worn { IsErrOf result CommitFault.Memory ⊎ (IsErrOf result CommitFault.Worn
+            ↔ IsTrue (is_worn (as_changes changes.now) (kept_by self.old).body.seq)) }
+        ensures full { IsErrOf result CommitFault.Memory ⊎ IsErrOf result CommitFault.Worn
+            ⊎ ((need free : ℕ) → IsErrOf result (CommitFault.Full need free)
+            ↔ (lacking (as_changes changes.now) (store_room (kept_by self.old))
+            ≡ Some (record { need = need; free = free }))) }
+        ensures unchanged { length changes.now ≡ 0 → IsOkUnless result CommitFault.Memory }
+        ensures disk { IsErrOf result CommitFault.Disk → FaultCountRose
+            (D.faults (kept_by self.old).disk) (D.faults (kept_by self.new).disk) }
+        ensures doubt_counted { IsErrOf result CommitFault.Doubt → FaultCountRose
+            (D.faults (kept_by self.old).disk) (D.faults (kept_by self.new).disk) }
+        ensures never_falls { D.faults (kept_by self.old).disk
+            ≤ D.faults (kept_by self.new).disk }
+        ensures unused { IfErr result (λ fault. IsFalse (is_of_disk fault)
+            → D.faults (kept_by self.new).disk ≡ D.faults (kept_by self.old).disk) }
+        ensures stands { IsTrue D.tells → IfErr result (λ fault. IsFalse (is_of_disk fault)
+            → KeepsImages (D.moment (kept_by self.old).disk) (D.moment (kept_by self.new).disk)
+            (λ past. Leaves (D.images_since (kept_by self.old).disk past))
+            (λ past. Leaves (D.images_since (kept_by self.new).disk past))) }
+        ensures images { IsTrue D.tells
+            → Took (D.moment (kept_by self.old).disk) (D.moment (kept_by self.new).disk)
+            (λ past. Leaves (D.images_since (kept_by self.old).disk past))
+            (λ past. Leaves (D.images_since (kept_by self.new).disk past))
+            (IsOldOrNewImage (image_of D.content (kept_by self.old)) (kept_by self.old).body.seq
+            (as_changes changes.now)
+            (version_after (as_changes changes.now) (kept_by self.old).body.seq)) }
+        ensures leads { KeptLeadsTo D.leads_to (kept_by self.old) (kept_by self.new) }
+        ensures old_alone { IsTrue D.tells → IsErrOf result CommitFault.Disk → LeavesOldAlone
+            D.content D.moment D.images_since (kept_by self.old) (kept_by self.new).disk }
+        ensures gate_call { length changes.now ≢ 0 → OnOk result
+            (CallsGate D.leads_to D.faults (λ at_gate. IsTrue D.tells
+            → OldUntilGate D.content D.loose D.moment D.images_since (kept_by self.old) at_gate
+            (kept_by self.new).disk) (kept_by self.old).disk (kept_by self.new).disk) }
+        ensures gate_call_in_doubt { IsErrOf result CommitFault.Doubt
+            → FailsAtGate D.leads_to D.faults (λ at_gate. IsTrue D.tells
+            → OldUntilGate D.content D.loose D.moment D.images_since (kept_by self.old) at_gate
+            (kept_by self.new).disk) (kept_by self.old).disk (kept_by self.new).disk }
+        ensures frames { OnOk result (OthersKeepFrames (pages_of (as_changes changes.now))
+            (kept_by self.old).held (kept_by self.new).held) }
+        ensures words { IsTrue D.tells → OnOk result
+            (OthersKeepWords (pages_of (as_changes changes.now))
+            (image_of D.content (kept_by self.old)) (image_of D.content (kept_by self.new))) }
+    {
         if changes.is_empty() {
             return Ok(self.store.version());
         }

@@ -3,10 +3,12 @@ ghost use Rattle.casper_words.specs.Count.{FaultCountRose};
 ghost use Rattle.casper_root.specs.Format.{body_block};
 ghost use Rattle.casper_root.specs.Slots.{other_slot};
 ghost use Rattle.casper_commit.specs.Added.{AddsImages};
+ghost use Rattle.casper_commit.specs.GateMoment.{CallsGate, FailsAtGate};
 ghost use Rattle.casper_commit.specs.Pieces.{GoInto};
 ghost use Rattle.casper_commit.specs.Root.{seq_of};
 ghost use Rattle.casper_commit.specs.States.{OpensTo, RootStands, root_at};
 ghost use Rattle.casper_stable.specs.Writing.{piece_count, piece_place, IsWritten, NextStands, GateDecides, IsOldOrWritten};
+ghost use Rattle.casper_stable.specs.UntilGate.{WrittenUntilGate};
 
 use crate::pieces::Written;
 use casper_commit::{Standing, put_frames, put_root};
@@ -62,6 +64,13 @@ pub(crate) fn put_plan<D: Disk>(
         → IsErrOf result CommitFault.Disk
         → AddsImages D.moment D.images_since disk.old disk.new (OpensTo
         (root_at standing.old was) free base) }
+    ensures gate_call { OnOk result (CallsGate D.leads_to D.faults (λ at_gate. IsTrue D.tells
+        → WrittenUntilGate D.content D.loose D.moment D.images_since
+        written.now standing.old disk.old at_gate disk.new) disk.old disk.new) }
+    ensures gate_call_in_doubt { IsErrOf result CommitFault.Doubt
+        → FailsAtGate D.leads_to D.faults (λ at_gate. IsTrue D.tells
+        → WrittenUntilGate D.content D.loose D.moment D.images_since
+        written.now standing.old disk.old at_gate disk.new) disk.old disk.new }
     ensures size { D.size disk.new ≡ D.size disk.old }
     ensures leads { D.leads_to disk.old disk.new }
     ensures counted { OnErr result (FaultCountRose (D.faults disk.old) (D.faults disk.new)) }

@@ -1,52 +1,25 @@
+use crate::tests::{commit_three, found, left, opened};
 use crate::Stable;
 use casper_disk::{CommitFault, Fail as Failing, Kind, MemDisk, Pick, Vault};
-use casper_words::{Frame, Memory, Page};
+use casper_words::{Frame, Page};
 use std::alloc::Global;
 use std::process::Abort;
 use std::test::Fail;
 
-/// A frame with this number as its first word.
-fn frame_of(alloc: Global, number: u64) -> Result<Frame, Memory> {
-    let mut frame = Frame::zero(alloc)?;
-    frame.set(0, number);
-    Ok(frame)
-}
-
-fn opened(alloc: Global, disk: MemDisk) -> Result<Stable<MemDisk>, Fail> {
-    match Stable::open(alloc, disk) {
-        Ok(stable) => Ok(stable),
-        Err(_) => Err("refused")?,
-    }
-}
-
-/// Commits pages 0 to 2, each with this number as its first word.
-fn commit_three(
+/// A store of 1,024 pages and 9 frames, armed with faults and opened again, which has made as many commits. The opening syncs once.
+fn store_after(
     rt: &impl Abort,
     alloc: Global,
-    stable: &mut Stable<MemDisk>,
-    number: u64,
-) -> Result<Result<u64, CommitFault>, Memory> {
-    assert!(rt; stable.pages() >= 3);
-    assert!(rt; !stable.in_doubt());
-    let changes = [
-        (Page(0), frame_of(alloc, number)?),
-        (Page(1), frame_of(alloc, number)?),
-        (Page(2), frame_of(alloc, number)?),
-    ];
-    Ok(stable.commit(alloc, &changes))
-}
-
-/// A store of 1,024 pages and 9 frames after a first commit, armed and opened again: the opening syncs once.
-fn committed_once(
-    rt: &impl Abort,
-    alloc: Global,
+    commits: u64,
     fails: &[Failing],
 ) -> Result<Stable<MemDisk>, Fail> {
     let mut stable = match Stable::format(alloc, MemDisk::new(alloc, 14, 32)?, 1024, 9) {
         Ok(stable) => stable,
         Err(_) => return Err("format")?,
     };
-    assert_eq!(rt; commit_three(rt, alloc, &mut stable, 1)?, Ok(2));
+    if commits == 1 {
+        assert_eq!(rt; commit_three(rt, alloc, &mut stable, 1)?, Ok(2));
+    }
     let mut disk = stable.into_disk();
     disk.arm(fails, 16)?;
     opened(alloc, disk)
@@ -55,89 +28,178 @@ fn committed_once(
 /// Takes what may go to another thread.
 fn hand_over<V: Vault + Drop + Send>(_vault: V) {}
 
-/// What a stop within a call leaves.
-fn left(
-    rt: &impl Abort,
-    alloc: Global,
-    disk: &MemDisk,
-    call: u64,
-    pick: Pick,
-) -> Result<MemDisk, Fail> {
-    let most = disk
-        .count(Kind::Write)
-        .saturating_add(disk.count(Kind::Sync));
-    assert!(rt; 1 <= call && call <= most.saturating_add(1));
-    Ok(disk.stopped(alloc, call, pick)?)
-}
-
-/// The version of a store that a stop left, and the first word of page 0.
-fn found(rt: &impl Abort, alloc: Global, disk: MemDisk) -> Result<(u64, u64), Fail> {
-    let mut stable = opened(alloc, disk)?;
-    let mut into = Frame::zero(alloc)?;
-    assert!(rt; stable.pages() >= 1);
-    assert_eq!(rt; stable.read_page(Page(0), &mut into), Ok(()));
-    Ok((stable.version(), into.get(0)))
-}
+const PICKS: [Pick; 3] = [Pick::Old, Pick::New, Pick::Torn(0xEE)];
 
 /// Calls 1 to 3 write pages, 4 a map block, 5 closes the spare gate, 6 syncs, 7 writes the body, 8 syncs, 9 opens the gate, 10
-/// syncs. A stop before the gate's write leaves the first commit, one in the last two calls either, and one after them the second.
+/// syncs. Beside each call stands the version that a stop within it leaves, for each pick; 11 is after the last.
 #[test]
 fn stops_within_the_second_commit(rt: HostRuntime) -> Result<(), Fail> {
+    let table = [
+        (1, [2, 2, 2]),
+        (2, [2, 2, 2]),
+        (3, [2, 2, 2]),
+        (4, [2, 2, 2]),
+        (5, [2, 2, 2]),
+        (6, [2, 2, 2]),
+        (7, [2, 2, 2]),
+        (8, [2, 2, 2]),
+        (9, [2, 3, 3]),
+        (10, [2, 3, 3]),
+        (11, [3, 3, 3]),
+    ];
     let alloc = rt.alloc();
-    let mut stable = committed_once(&rt, alloc, &[])?;
+    let mut stable = store_after(&rt, alloc, 1, &[])?;
     assert_eq!(rt; commit_three(&rt, alloc, &mut stable, 2)?, Ok(3));
     let disk = stable.into_disk();
     // The opening's sync came first.
-    assert_eq!(rt; disk.count(Kind::Write), 7);
-    assert_eq!(rt; disk.count(Kind::Sync), 4);
-    for call in 1..=11 {
-        for (pick, old) in [(Pick::Old, 10), (Pick::New, 8), (Pick::Torn(0xEE), 8)] {
-            let left = left(&rt, alloc, &disk, call + 1, pick)?;
-            let want = if call <= old { (2, 1) } else { (3, 2) };
+    let made = (disk.count(Kind::Write), disk.count(Kind::Sync));
+    assert_eq!(rt; made, (7, 4));
+    for (call, versions) in table {
+        for (pick, version) in PICKS.iter().zip(versions.iter()) {
+            let left = left(&rt, alloc, &disk, call + 1, *pick)?;
+            let want = (*version, *version - 1);
             assert_eq!(rt; found(&rt, alloc, left)?, want, "{pick:?} at {call}");
         }
     }
     Ok(())
 }
 
-/// The second commit with each failing write and sync: what it answers, whether it is in doubt, and what the store is after a settle.
-#[test]
-fn fails_at_each_call(rt: HostRuntime) -> Result<(), Fail> {
-    let alloc = rt.alloc();
-    let writes = [1, 2, 3, 4, 5, 6, 7];
-    for number in writes {
-        let fails = [Failing {
-            kind: Kind::Write,
-            number,
-        }];
-        fails_with(&rt, alloc, &fails, number == 7)?;
+/// What a commit answers to a fault at one of its calls, and the version that a stop then leaves, for each pick.
+#[derive(Clone, Copy)]
+struct Row {
+    kind: Kind,
+    number: u64,
+    fault: CommitFault,
+    left: [u64; 3],
+}
+
+/// A row of a fault before the gate's call.
+fn before(kind: Kind, number: u64, version: u64) -> Row {
+    Row {
+        kind,
+        number,
+        fault: CommitFault::Disk,
+        left: [version; 3],
     }
-    for number in [2, 3, 4] {
-        let fails = [Failing {
-            kind: Kind::Sync,
-            number,
-        }];
-        fails_with(&rt, alloc, &fails, number == 4)?;
+}
+
+/// A row of a fault at the gate's call or at the sync after it, which raises this version.
+fn at_gate(kind: Kind, number: u64, version: u64) -> Row {
+    let next = version.saturating_add(1);
+    Row {
+        kind,
+        number,
+        fault: CommitFault::Doubt,
+        left: [version, next, next],
+    }
+}
+
+/// The gate of slot B is known to be closed after a format, so the first commit closes none. Its opening made the first sync.
+#[test]
+fn fails_at_each_call_of_the_first_commit(rt: HostRuntime) -> Result<(), Fail> {
+    let table = [
+        before(Kind::Write, 1, 1),
+        before(Kind::Write, 2, 1),
+        before(Kind::Write, 3, 1),
+        before(Kind::Write, 4, 1),
+        before(Kind::Sync, 2, 1),
+        before(Kind::Write, 5, 1),
+        before(Kind::Sync, 3, 1),
+        at_gate(Kind::Write, 6, 1),
+        at_gate(Kind::Sync, 4, 1),
+    ];
+    for row in table {
+        fails_as(&rt, rt.alloc(), 0, row)?;
     }
     Ok(())
 }
 
-fn fails_with(rt: &impl Abort, alloc: Global, fails: &[Failing], doubt: bool) -> Result<(), Fail> {
-    let mut stable = committed_once(rt, alloc, fails)?;
-    hand_over(committed_once(rt, alloc, &[])?);
-    let fault = if doubt {
-        CommitFault::Doubt
-    } else {
-        CommitFault::Disk
+#[test]
+fn fails_at_each_call_of_the_second_commit(rt: HostRuntime) -> Result<(), Fail> {
+    let table = [
+        before(Kind::Write, 1, 2),
+        before(Kind::Write, 2, 2),
+        before(Kind::Write, 3, 2),
+        before(Kind::Write, 4, 2),
+        before(Kind::Write, 5, 2),
+        before(Kind::Sync, 2, 2),
+        before(Kind::Write, 6, 2),
+        before(Kind::Sync, 3, 2),
+        at_gate(Kind::Write, 7, 2),
+        at_gate(Kind::Sync, 4, 2),
+    ];
+    for row in table {
+        fails_as(&rt, rt.alloc(), 1, row)?;
+    }
+    Ok(())
+}
+
+/// After a fault no later call is made; a settle makes the gate's call and a sync where the commit is in doubt, and nothing else.
+fn fails_as(rt: &impl Abort, alloc: Global, commits: u64, row: Row) -> Result<(), Fail> {
+    let fails = [Failing {
+        kind: row.kind,
+        number: row.number,
+    }];
+    let mut stable = store_after(rt, alloc, commits, &fails)?;
+    hand_over(store_after(rt, alloc, commits, &[])?);
+    let [old, next, _torn] = row.left;
+    assert_eq!(rt; commit_three(rt, alloc, &mut stable, next)?, Err(row.fault));
+    assert_eq!(rt; stable.in_doubt(), row.fault == CommitFault::Doubt);
+    assert_eq!(rt; stable.version(), old);
+    let disk = stable.into_disk();
+    assert_eq!(rt; disk.count(row.kind), row.number);
+    let calls = disk
+        .count(Kind::Write)
+        .saturating_add(disk.count(Kind::Sync));
+    for (pick, version) in PICKS.iter().zip(row.left.iter()) {
+        let left = left(rt, alloc, &disk, calls.saturating_add(1), *pick)?;
+        assert_eq!(rt; found(rt, alloc, left)?.0, *version, "{pick:?}");
+    }
+    Ok(())
+}
+
+#[test]
+fn settles_forward(rt: HostRuntime) -> Result<(), Fail> {
+    let alloc = rt.alloc();
+    for (kind, number) in [(Kind::Write, 7), (Kind::Sync, 4)] {
+        let again = Failing {
+            kind: Kind::Sync,
+            number: if kind == Kind::Write { 4 } else { 5 },
+        };
+        let fails = [Failing { kind, number }, again];
+        let mut stable = store_after(&rt, alloc, 1, &fails)?;
+        assert_eq!(rt; commit_three(&rt, alloc, &mut stable, 2)?, Err(CommitFault::Doubt));
+        assert!(rt; stable.settle().is_err());
+        assert!(rt; stable.in_doubt());
+        assert_eq!(rt; stable.settle(), Ok(3));
+        assert_eq!(rt; stable.settle(), Ok(3));
+        assert_eq!(rt; found(&rt, alloc, stable.into_disk())?, (3, 2));
+    }
+    Ok(())
+}
+
+/// Two pages of two map blocks need four frames. A page that has a frame needs a new one, and a new frame for its map block.
+#[test]
+fn needs_a_frame_for_each_page_and_map_block(rt: HostRuntime) -> Result<(), Fail> {
+    let alloc = rt.alloc();
+    let disk = MemDisk::new(alloc, 8, 32)?;
+    let mut stable = match Stable::format(alloc, disk, 2048, 3) {
+        Ok(stable) => stable,
+        Err(_) => return Err("format")?,
     };
-    assert_eq!(rt; commit_three(rt, alloc, &mut stable, 2)?, Err(fault));
-    assert_eq!(rt; stable.in_doubt(), doubt);
-    assert_eq!(rt; (stable.version(), stable.used()), (2, 4));
-    let version = if doubt { 3 } else { 2 };
-    assert_eq!(rt; stable.settle(), Ok(version));
-    assert_eq!(rt;
-        found(rt, alloc, stable.into_disk())?,
-        (version, version - 1)
-    );
+    assert!(rt; stable.pages() >= 2048);
+    assert!(rt; !stable.in_doubt());
+    let two = [(Page(0), Frame::zero(alloc)?), (Page(1024), Frame::zero(alloc)?)];
+    let full = CommitFault::Full { need: 4, free: 3 };
+    assert_eq!(rt; stable.commit(alloc, &two), Err(full));
+    assert!(rt; !stable.in_doubt());
+    assert!(rt; stable.pages() >= 2048);
+    let one = [(Page(0), Frame::zero(alloc)?)];
+    assert_eq!(rt; stable.commit(alloc, &one), Ok(2));
+    assert_eq!(rt; (stable.used(), stable.frames()), (2, 3));
+    assert!(rt; !stable.in_doubt());
+    assert!(rt; stable.pages() >= 2048);
+    let full = CommitFault::Full { need: 2, free: 1 };
+    assert_eq!(rt; stable.commit(alloc, &one), Err(full));
     Ok(())
 }

@@ -8,21 +8,21 @@ use std::test::Fail;
 
 /// Bytes that are written over those of a block from a place on.
 #[derive(Clone, Copy)]
-struct Patch {
-    at: u32,
-    from: u32,
-    bytes: [u8; 4],
+pub struct Patch {
+    pub at: u32,
+    pub from: u32,
+    pub bytes: [u8; 4],
 }
 
 /// A new store of 1,024 pages and 3 frames.
-fn new_store(alloc: Global) -> Result<MemDisk, Fail> {
+pub fn new_store(alloc: Global) -> Result<MemDisk, Fail> {
     match Stable::format(alloc, MemDisk::new(alloc, 8, 32)?, 1024, 3) {
         Ok(stable) => Ok(stable.into_disk()),
         Err(_) => Err("format")?,
     }
 }
 
-fn overwrite(alloc: Global, disk: &mut MemDisk, patch: &Patch) -> Result<(), Fail> {
+pub fn overwrite(alloc: Global, disk: &mut MemDisk, patch: &Patch) -> Result<(), Fail> {
     if patch.at >= disk.blocks() || patch.from > 4092 {
         return Err("no such bytes")?;
     }
@@ -34,7 +34,7 @@ fn overwrite(alloc: Global, disk: &mut MemDisk, patch: &Patch) -> Result<(), Fai
 }
 
 /// Why a disk is refused.
-fn refusal(alloc: Global, disk: MemDisk) -> Option<OpenFault> {
+pub fn refusal(alloc: Global, disk: MemDisk) -> Option<OpenFault> {
     match Stable::open(alloc, disk) {
         Ok(_) => None,
         Err((_, fault)) => Some(fault),

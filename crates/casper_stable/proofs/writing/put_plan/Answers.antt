@@ -1,6 +1,7 @@
-use Rattle.std.proofs.Common.{◌∙◌, ◌<◌, ℕ, List, sym, subst, inl, inr, ⊎_elim}
+use Rattle.std.proofs.Common.{◌∙◌, ◌<◌, ℕ, List, sym, subst, inl, inr, ⊎_elim, arith}
 use Rattle.casper_root.specs.Format.{body_block}
 use Rattle.casper_commit.specs.Added.{AddsImages}
+use Rattle.casper_commit.specs.GateMoment.{CallsGate}
 use Rattle.casper_commit.specs.Root.{seq_of}
 use Rattle.casper_commit.specs.States.{IsAtGate, IsOldOrNew, OpensTo, RootStands, none_free, root_at}
 use Rattle.casper_commit.proofs.AddedLemmas.{adds_then, adds_wider}
@@ -98,3 +99,53 @@ returns-clause-old_images g c told was free base into is answer =
     (λ earlier later image order since. g.met.D.Disk.earlier_counts after earlier later image told order since)
     (c.put_frames.ensures.images told c.args.standing.now.spare_closed root free base into is)
     (c.put_root.ensures.old_images told was free base still answer)
+
+pub returns-clause-gate_call : goal.returns-clause-gate_call
+returns-clause-gate_call g c =
+    let disk = c.args.disk.now in
+    let middle = c.put_frames.new.disk in
+    let after = c.put_root.new.disk in
+    let known = c.args.standing.now.spare_closed in
+    let frames = c.put_frames.ensures.never_falls in
+    on_ok_more c.put_root.result (λ (called : CallsGate g.D.Disk.leads_to g.D.Disk.faults _ c.put_frames.new.disk c.put_root.new.disk). record {
+      at_gate = called.at_gate;
+      before = g.met.D.Disk.leads_on disk middle called.at_gate c.put_frames.ensures.leads called.before;
+      after = called.after;
+      counted = (let later = called.counted in omega (arith, frames, later));
+      met = λ told was free base into is.
+          let root = root_at c.args.standing.now was in
+          let stood = called.met told was free base (c.put_frames.ensures.stands told known root free base into is) in record {
+            old_alone = adds_then g.D.Disk.moment g.D.Disk.images_since disk middle called.at_gate (OpensTo root free base)
+                (λ earlier later image order since. g.met.D.Disk.earlier_counts called.at_gate earlier later image told order since)
+                (c.put_frames.ensures.images told known root free base into is) stood.old_alone;
+            alone = stood.alone;
+            settled = stood.settled;
+            gate_alone = stood.gate_alone;
+          };
+    }) c.put_root.ensures.gate_call
+
+pub returns-clause-gate_call_in_doubt : goal.returns-clause-gate_call_in_doubt
+returns-clause-gate_call_in_doubt g c answer =
+    let fails = c.put_root.ensures.gate_call_in_doubt answer in
+    let called = fails.call in
+    let disk = c.args.disk.now in
+    let middle = c.put_frames.new.disk in
+    let after = c.put_root.new.disk in
+    let known = c.args.standing.now.spare_closed in
+    let frames = c.put_frames.ensures.never_falls in
+    record { call = record {
+      at_gate = called.at_gate;
+      before = g.met.D.Disk.leads_on disk middle called.at_gate c.put_frames.ensures.leads called.before;
+      after = called.after;
+      counted = (let later = called.counted in omega (arith, frames, later));
+      met = λ told was free base into is.
+          let root = root_at c.args.standing.now was in
+          let stood = called.met told was free base (c.put_frames.ensures.stands told known root free base into is) in record {
+            old_alone = adds_then g.D.Disk.moment g.D.Disk.images_since disk middle called.at_gate (OpensTo root free base)
+                (λ earlier later image order since. g.met.D.Disk.earlier_counts called.at_gate earlier later image told order since)
+                (c.put_frames.ensures.images told known root free base into is) stood.old_alone;
+            alone = stood.alone;
+            settled = stood.settled;
+            gate_alone = stood.gate_alone;
+          };
+    }; rose = fails.rose }

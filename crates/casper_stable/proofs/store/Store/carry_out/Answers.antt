@@ -1,5 +1,5 @@
 use Rattle.std.proofs.Common.{◌≡◌, ◌∙◌, ◌+◌, ◌-◌, ◌<◌, ℕ, List, sym, ap, subst}
-use Rattle.std.specs.Prelude.{None, Some}
+use Rattle.std.specs.Prelude.{IsTrue, None, Some}
 use Rattle.std.proofs.lemmas.Option.{none-some}
 use Rattle.casper_disk.specs.Disk.{Took}
 use Rattle.casper_disk.specs.Vault.{IsOldOrNewImage, as_changes}
@@ -7,19 +7,24 @@ use Rattle.casper_space.specs.Changes.{last_version, room_after, with_changes}
 use Rattle.casper_root.specs.Format.{body_block}
 use Rattle.casper_root.specs.declared.body.Body.{Body}
 use Rattle.casper_commit.specs.Added.{AddsImages}
+use Rattle.casper_commit.specs.GateMoment.{CallsGate, FailsAtGate}
 use Rattle.casper_commit.specs.Root.{seq_of, body_at}
 use Rattle.casper_commit.specs.declared.standing.Standing.{Standing}
 use Rattle.casper_map.specs.Mapped.{page_count}
 use Rattle.casper_map.specs.Room.{room_of}
+use Rattle.casper_map.proofs.PagesLemmas.{others_stay}
 use Rattle.casper_map.proofs.RoomLemmas.{rooms_follow_plans}
 use Rattle.casper_map.specs.Planned.{Planned, IsPlan, moved}
 use Rattle.casper_stable.specs.Opens.{pages_in}
 use Rattle.casper_stable.specs.Kept.{Kept, image_of, next_body, roots_of}
 use Rattle.casper_stable.specs.Leaves.{Leaves}
 use Rattle.casper_stable.specs.Sound.{free_blocks, root_of}
+use Rattle.casper_stable.specs.Others.{OthersKeepFrames, frame_of_page}
+use Rattle.casper_stable.specs.UntilGate.{LeavesOldAlone, OldUntilGate}
 use Rattle.casper_stable.specs.Writing.{Written, NextStands, GateDecides, IsOldOrWritten}
 use Rattle.casper_stable.specs.LeavesLemmas.{took_saved}
 use Rattle.casper_stable.proofs.CommitLemmas.{written_is, goes_free, greater_of, after_ok, after_doubt, after_fault, either_written, fit_next, fit_still, sure_of, on_disk, disk_next, disk_doubt, some_is}
+use Rattle.casper_stable.proofs.GateLemmas.{leaves_old, until_gate}
 use Rattle.casper_stable.proofs.DoubtLemmas.{doubt_found, disk_found}
 use Rattle.casper_stable.specs.SoundLemmas.{plan_long, sure_still}
 use Rattle.casper_stable.proofs.store.Store.carry_out.Goals as goal
@@ -429,3 +434,128 @@ returns-clause-room g c =
     (sym c.self.view_is) c.requires.more in
     ap room_of c.apply.ensures ∙ rooms_follow_plans own.map plan whole.blocks planned
     ∙ ap (λ (kept : Kept g.row.D.Denot). room_after (moved plan.pages) (room_of kept.held)) c.self.view_is
+
+pub returns-in-Err-clause-old_alone : goal.returns-in-Err-clause-old_alone
+returns-in-Err-clause-old_alone g c told answer =
+    let own = c.self.inside in
+    let roots = roots_of own.header own.standing own.body in
+    let plan = c.args.plan in
+    let written : Written = record { held = own.map; plan = plan; changes = c.args.changes.now } in
+    let kept : Kept g.row.D.Denot = record {
+      disk = own.disk;
+      header = own.header;
+      standing = own.standing;
+      body = own.body;
+      held = own.map;
+      doubt = own.doubt;
+    } in
+    let none : own.doubt ≡ None = ap (λ (kept : Kept g.row.D.Denot). kept.doubt) c.self.view_is ∙ c.requires.sure in
+    let fits = c.self.invariant.0.fits in
+    let whole = c.self.invariant.0.whole in
+    let planned : IsPlan own.map plan = subst (λ (kept : Kept g.row.D.Denot). IsPlan kept.held plan)
+    (sym c.self.view_is) c.requires.planned in
+    let after = c.put_plan.new.disk in
+    let is = written_is (g.D.Disk.size own.disk) roots written fits whole planned c.requires.pages in
+    let sure = sure_of roots own.map own.doubt (g.D.Disk.content own.disk) (g.D.Disk.loose own.disk) none (c.self.invariant.1 told) in
+    let into = goes_free sure.base roots written is sure.opens.map in
+    subst (λ (kept : Kept g.row.D.Denot). LeavesOldAlone g.D.Disk.content g.D.Disk.moment g.D.Disk.images_since kept after) c.self.view_is
+    (leaves_old g.D.Disk.content g.D.Disk.loose g.D.Disk.moment g.D.Disk.images_since kept after sure
+    (c.in-Err.ensures.old_images told (body_at sure.base roots.slot) (free_blocks sure.base roots) sure.base into sure.stands
+    (disk_found c.in-Err.fault (sym c.is_doubt.ensures ∙ c.if-is_doubt.false) c.in-Err.ensures.causes)))
+
+pub returns-clause-gate_call : goal.returns-clause-gate_call
+returns-clause-gate_call g c =
+    let own = c.self.inside in
+    let roots = roots_of own.header own.standing own.body in
+    let plan = c.args.plan in
+    let written : Written = record { held = own.map; plan = plan; changes = c.args.changes.now } in
+    let kept : Kept g.row.D.Denot = record {
+      disk = own.disk;
+      header = own.header;
+      standing = own.standing;
+      body = own.body;
+      held = own.map;
+      doubt = own.doubt;
+    } in
+    let none : own.doubt ≡ None = ap (λ (kept : Kept g.row.D.Denot). kept.doubt) c.self.view_is ∙ c.requires.sure in
+    let fits = c.self.invariant.0.fits in
+    let whole = c.self.invariant.0.whole in
+    let planned : IsPlan own.map plan = subst (λ (kept : Kept g.row.D.Denot). IsPlan kept.held plan)
+    (sym c.self.view_is) c.requires.planned in
+    let after = c.put_plan.new.disk in
+    let called = c.in-Ok.ensures.gate_call in
+    subst (λ (kept : Kept g.row.D.Denot). CallsGate g.D.Disk.leads_to g.D.Disk.faults (λ at_gate. IsTrue g.D.Disk.tells → OldUntilGate
+    g.D.Disk.content g.D.Disk.loose g.D.Disk.moment g.D.Disk.images_since kept at_gate after) kept.disk after) c.self.view_is
+    (record {
+      at_gate = called.at_gate;
+      before = called.before;
+      after = called.after;
+      counted = called.counted;
+      met = λ told.
+          let is = written_is (g.D.Disk.size own.disk) roots written fits whole planned c.requires.pages in
+          let sure = sure_of roots own.map own.doubt (g.D.Disk.content own.disk) (g.D.Disk.loose own.disk) none (c.self.invariant.1 told) in
+          until_gate g.D.Disk.content g.D.Disk.loose g.D.Disk.moment g.D.Disk.images_since kept written called.at_gate after sure
+          (goes_free sure.base roots written is sure.opens.map) (called.met told);
+    })
+
+pub returns-then-is_doubt-clause-gate_call_in_doubt : goal.returns-then-is_doubt-clause-gate_call_in_doubt
+returns-then-is_doubt-clause-gate_call_in_doubt g c answer =
+    let own = c.self.inside in
+    let roots = roots_of own.header own.standing own.body in
+    let plan = c.args.plan in
+    let written : Written = record { held = own.map; plan = plan; changes = c.args.changes.now } in
+    let kept : Kept g.row.D.Denot = record {
+      disk = own.disk;
+      header = own.header;
+      standing = own.standing;
+      body = own.body;
+      held = own.map;
+      doubt = own.doubt;
+    } in
+    let none : own.doubt ≡ None = ap (λ (kept : Kept g.row.D.Denot). kept.doubt) c.self.view_is ∙ c.requires.sure in
+    let fits = c.self.invariant.0.fits in
+    let whole = c.self.invariant.0.whole in
+    let planned : IsPlan own.map plan = subst (λ (kept : Kept g.row.D.Denot). IsPlan kept.held plan)
+    (sym c.self.view_is) c.requires.planned in
+    let after = c.put_plan.new.disk in
+    let fails = c.in-Err.ensures.gate_call_in_doubt (doubt_found c.in-Err.fault (sym c.is_doubt.ensures ∙ c.if-is_doubt.true)) in
+    let called = fails.call in
+    subst (λ (kept : Kept g.row.D.Denot). FailsAtGate g.D.Disk.leads_to g.D.Disk.faults (λ at_gate. IsTrue g.D.Disk.tells → OldUntilGate
+    g.D.Disk.content g.D.Disk.loose g.D.Disk.moment g.D.Disk.images_since kept at_gate after) kept.disk after) c.self.view_is
+    (record {
+      call = record {
+      at_gate = called.at_gate;
+      before = called.before;
+      after = called.after;
+      counted = called.counted;
+      met = λ told.
+          let is = written_is (g.D.Disk.size own.disk) roots written fits whole planned c.requires.pages in
+          let sure = sure_of roots own.map own.doubt (g.D.Disk.content own.disk) (g.D.Disk.loose own.disk) none (c.self.invariant.1 told) in
+          until_gate g.D.Disk.content g.D.Disk.loose g.D.Disk.moment g.D.Disk.images_since kept written called.at_gate after sure
+          (goes_free sure.base roots written is sure.opens.map) (called.met told);
+    };
+      rose = fails.rose;
+    })
+
+pub returns-clause-frames : goal.returns-clause-frames
+returns-clause-frames g c =
+    let own = c.self.inside in
+    let roots = roots_of own.header own.standing own.body in
+    let plan = c.args.plan in
+    let written : Written = record { held = own.map; plan = plan; changes = c.args.changes.now } in
+    let kept : Kept g.row.D.Denot = record {
+      disk = own.disk;
+      header = own.header;
+      standing = own.standing;
+      body = own.body;
+      held = own.map;
+      doubt = own.doubt;
+    } in
+    let none : own.doubt ≡ None = ap (λ (kept : Kept g.row.D.Denot). kept.doubt) c.self.view_is ∙ c.requires.sure in
+    let fits = c.self.invariant.0.fits in
+    let whole = c.self.invariant.0.whole in
+    let planned : IsPlan own.map plan = subst (λ (kept : Kept g.row.D.Denot). IsPlan kept.held plan)
+    (sym c.self.view_is) c.requires.planned in
+    let after = c.put_plan.new.disk in
+    subst (λ (kept : Kept g.row.D.Denot). OthersKeepFrames (moved plan.pages) kept.held c.apply.new.self) c.self.view_is
+    (λ page others. ap (λ held. frame_of_page held page) c.apply.ensures ∙ others_stay own.map plan page whole.blocks planned others)
