@@ -1,5 +1,6 @@
 pub mod Opens
 pub mod Kept
+pub mod KeptBy
 pub mod Leaves
 pub mod Sound
 pub mod Opened

@@ -6,6 +6,7 @@ ghost use Rattle.casper_root.specs.Format.{open_gate_block};
 ghost use Rattle.casper_root.specs.Parts.{HasRoomFor};
 ghost use Rattle.casper_root.specs.declared.fault.OpenFault.{OpenFault};
 ghost use Rattle.casper_stable.specs.Formatted.{sizes, sizes_on, new_body, new_roots, new_map, new_store, IsNew, IsPrepared};
+ghost use Rattle.casper_stable.specs.KeptBy.{kept_by};
 ghost use Rattle.casper_stable.specs.Opened.{shown, IsRefusalOf, DiskMeets, OpenTo};
 ghost use Rattle.casper_stable.specs.Opens.{opens};
 ghost use Rattle.casper_stable.specs.Sound.{IsFit};
@@ -33,22 +34,23 @@ impl<D: Disk> Stable<D> {
             result ≡ Err (disk, refusal) }
         ensures causes { IfErr result (λ refused.
             IsRefusalOf (sizes_on (D.size disk) (sizes pages frames)) refused.1) }
-        ensures new { IfOk result (λ stable. IsNew (sizes pages frames) stable.store) }
+        ensures new { IfOk result (λ stable. IsNew (sizes pages frames) (kept_by stable)) }
         ensures shown { IsTrue D.tells →
-            IfOk result (λ stable. shown D.content stable.store ≡ new_store (sizes pages frames)) }
+            IfOk result (λ stable. shown D.content (kept_by stable)
+            ≡ new_store (sizes pages frames)) }
         ensures opens { IsTrue D.tells → (image : List (List ℕ)) →
-            IfOk result (λ stable. D.images_now stable.store.disk image →
+            IfOk result (λ stable. D.images_now (kept_by stable).disk image →
             opens image ≡ Ok (new_store (sizes pages frames))) }
         ensures settled { IsTrue D.tells →
-            IfOk result (λ stable. D.loose stable.store.disk ≡ none_loose) }
-        ensures size { DiskMeets (λ stable. stable.store.disk) result
+            IfOk result (λ stable. D.loose (kept_by stable).disk ≡ none_loose) }
+        ensures size { DiskMeets (λ stable. (kept_by stable).disk) result
             (λ after. D.size after ≡ D.size disk) }
-        ensures leads { DiskMeets (λ stable. stable.store.disk) result
+        ensures leads { DiskMeets (λ stable. (kept_by stable).disk) result
             (λ after. D.leads_to disk after) }
         ensures unused { IfErr result (λ refused. refused.1 ≡ OpenFault.Memory → refused.0 ≡ disk) }
         ensures counted { IfErr result (λ refused. refused.1 ≡ OpenFault.Disk →
             FaultCountRose (D.faults disk) (D.faults refused.0)) }
-        ensures never_falls { DiskMeets (λ stable. stable.store.disk) result
+        ensures never_falls { DiskMeets (λ stable. (kept_by stable).disk) result
             (λ after. D.faults disk ≤ D.faults after) }
     {
         let mut disk = disk;

@@ -3,6 +3,7 @@
 
 mod committing;
 mod formatting;
+mod frames;
 mod opening;
 mod pieces;
 mod planning;

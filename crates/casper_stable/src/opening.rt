@@ -4,6 +4,7 @@ ghost use Rattle.casper_disk.specs.Disk.{none_loose};
 ghost use Rattle.casper_root.specs.Reading.{IsOnlyRead};
 ghost use Rattle.casper_stable.specs.Opened.{shown, IsRefusalOf, DiskMeets, OpenTo, AddsNoWrites};
 ghost use Rattle.casper_stable.specs.Kept.{roots_in};
+ghost use Rattle.casper_stable.specs.KeptBy.{kept_by};
 ghost use Rattle.casper_stable.specs.Opens.{opens};
 ghost use Rattle.casper_stable.specs.Sound.{IsFit};
 
@@ -30,25 +31,26 @@ impl<D: Disk> Stable<D> {
     /// where a read or the sync failed. With a fault the disk is handed back, and its content is unchanged.
     pub fn open(alloc: Global, disk: D) -> Result<Stable<D>, (D, OpenFault)>
         ensures found { IsTrue D.tells →
-            IfOk result (λ stable. opens (D.content disk) ≡ Ok (shown D.content stable.store)) }
+            IfOk result (λ stable. opens (D.content disk)
+            ≡ Ok (shown D.content (kept_by stable))) }
         ensures refused { IsTrue D.tells →
             IfErr result (λ refused. IsRefusalOf (opens (D.content disk)) refused.1) }
-        ensures sure { IfOk result (λ stable. stable.store.doubt ≡ None) }
-        ensures size { DiskMeets (λ stable. stable.store.disk) result
+        ensures sure { IfOk result (λ stable. (kept_by stable).doubt ≡ None) }
+        ensures size { DiskMeets (λ stable. (kept_by stable).disk) result
             (λ after. D.size after ≡ D.size disk) }
-        ensures leads { DiskMeets (λ stable. stable.store.disk) result
+        ensures leads { DiskMeets (λ stable. (kept_by stable).disk) result
             (λ after. D.leads_to disk after) }
-        ensures content { IsTrue D.tells → DiskMeets (λ stable. stable.store.disk) result
+        ensures content { IsTrue D.tells → DiskMeets (λ stable. (kept_by stable).disk) result
             (λ after. D.content after ≡ D.content disk) }
         ensures settled { IsTrue D.tells →
-            IfOk result (λ stable. D.loose stable.store.disk ≡ none_loose) }
+            IfOk result (λ stable. D.loose (kept_by stable).disk ≡ none_loose) }
         ensures unsettled { IsTrue D.tells →
             IfErr result (λ refused. D.loose refused.0 ≡ D.loose disk) }
-        ensures images { IsTrue D.tells → DiskMeets (λ stable. stable.store.disk) result
+        ensures images { IsTrue D.tells → DiskMeets (λ stable. (kept_by stable).disk) result
             (AddsNoWrites D.content D.loose D.moment D.images_since disk) }
         ensures counted { IfErr result (λ refused. refused.1 ≡ OpenFault.Disk →
             FaultCountRose (D.faults disk) (D.faults refused.0)) }
-        ensures never_falls { DiskMeets (λ stable. stable.store.disk) result
+        ensures never_falls { DiskMeets (λ stable. (kept_by stable).disk) result
             (λ after. D.faults disk ≤ D.faults after) }
     {
         let mut disk = disk;

@@ -1,7 +1,4 @@
-ghost use Rattle.std.specs.Prelude.{◌≡◌, ◌+◌};
-ghost use Rattle.casper_map.specs.Room.{room_of};
-ghost use Rattle.casper_space.specs.Changes.{free_of};
-ghost use Rattle.casper_stable.specs.Kept.{used_of};
+ghost use Rattle.std.specs.Prelude.{◌≡◌};
 ghost use Rattle.casper_stable.specs.Sound.{IsKept, IsHeld};
 
 use crate::store::Store;
@@ -24,27 +21,5 @@ impl<D: Disk> Stable<D> {
     {
         let _disk = &store.disk;
         Stable { store }
-    }
-
-    /// How many frames there are.
-    pub fn frames(&self) -> u32
-        ensures { result ≡ self.now.store.held.frames }
-    {
-        self.store.frames()
-    }
-
-    /// How many frames the current root names.
-    pub fn used(&self) -> u32
-        ensures count { result ≡ used_of self.now.store }
-        ensures free { result + free_of (room_of self.now.store.held) ≡ self.now.store.held.frames }
-    {
-        self.store.used()
-    }
-
-    /// The disk. What is in doubt is left to what its blocks open to.
-    pub fn into_disk(self) -> D
-        ensures { result ≡ self.store.disk }
-    {
-        self.store.into_disk()
     }
 }

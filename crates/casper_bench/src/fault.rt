@@ -1,0 +1,40 @@
+use casper_disk::{CommitFault, ShelfFault};
+use casper_root::OpenFault;
+use casper_words::Memory;
+use std::io;
+
+/// Why a measurement ended early.
+#[derive(Debug, Drop)]
+pub enum Fault {
+    Memory,
+    Shelf(ShelfFault),
+    Store(OpenFault),
+    Commit(CommitFault),
+    /// The pages of a commit are not in rising order, or not all in the store.
+    Pages,
+    Output,
+}
+
+impl From<Memory> for Fault {
+    fn from(_: Memory) -> Fault {
+        Fault::Memory
+    }
+}
+
+impl From<ShelfFault> for Fault {
+    fn from(fault: ShelfFault) -> Fault {
+        Fault::Shelf(fault)
+    }
+}
+
+impl From<CommitFault> for Fault {
+    fn from(fault: CommitFault) -> Fault {
+        Fault::Commit(fault)
+    }
+}
+
+impl From<io::Error> for Fault {
+    fn from(_: io::Error) -> Fault {
+        Fault::Output
+    }
+}

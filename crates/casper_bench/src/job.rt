@@ -1,0 +1,27 @@
+/// What the program is to do.
+#[derive(Clone, Copy)]
+pub enum Job<'a> {
+    /// Make a store in a new file.
+    Make { file: &'a str },
+    /// Commit so many random pages so many times.
+    Commit {
+        file: &'a str,
+        pages: u32,
+        commits: u32,
+    },
+}
+
+/// What the words ask for, if they are words of this program.
+pub fn job_of(words: &[String]) -> Option<Job<'_>> {
+    match words.len() {
+        2 if words[0].as_str() == "make" => Some(Job::Make {
+            file: words[1].as_str(),
+        }),
+        4 if words[0].as_str() == "commit" => Some(Job::Commit {
+            file: words[1].as_str(),
+            pages: words[2].parse().ok()?,
+            commits: words[3].parse().ok()?,
+        }),
+        _ => None,
+    }
+}
