@@ -1,14 +1,16 @@
-use Rattle.std.proofs.Common.{◌≡◌, ◌∙◌, ℕ, List, length, sym, ap, subst, inr, arith}
+use Rattle.std.proofs.Common.{refl, ◌≡◌, ◌∙◌, ℕ, List, length, sym, ap, subst, inr, arith}
 use Rattle.std.specs.Prelude.{Some, Option, Ok}
 use Rattle.std.specs.List.Sorted.{IsStrictlyIncreasing}
-use Rattle.std.proofs.lemmas.Bool.{eqb-false}
+use Rattle.std.proofs.lemmas.Bool.{eqb-false, eqb-true}
 use Rattle.casper_disk.specs.Disk.{Took}
 use Rattle.casper_disk.specs.Vault.{IsOldOrNewImage, as_changes, lacking, version_after}
-use Rattle.casper_space.specs.Changes.{VaultRoom, room_after}
+use Rattle.casper_space.specs.Changes.{VaultRoom, pages_of, room_after}
 use Rattle.casper_root.specs.declared.body.Body.{Body}
 use Rattle.casper_map.specs.Room.{room_of}
 use Rattle.casper_stable.specs.Kept.{image_of, store_room}
 use Rattle.casper_stable.specs.Leaves.{Leaves}
+use Rattle.casper_stable.specs.Others.{OthersKeepFrames, OthersKeepWords}
+use Rattle.casper_stable.proofs.GateLemmas.{words_stay}
 use Rattle.casper_stable.proofs.VaultLemmas.{none_found, took_sure, version_risen, room_risen, pages_same, full_kept}
 use Rattle.casper_stable.proofs.FullLemmas.{full_handed, not_full}
 use Rattle.casper_stable.proofs.vault.StableVault.commit.Goals as goal
@@ -120,3 +122,26 @@ returns-clause-full g c =
     let P : ℕ → ℕ → Type 0 = λ need free. lacking (as_changes c.args.changes.now) (store_room kept) ≡ Some
     (record { need = need; free = free }) in
     inr (inr (full_kept c.in_ok-plan.plan (Ok c.version-3.result) P (λ need free is. cc) c.in_ok-plan.ensures.full))
+
+pub returns-then-is_empty-clause-frames : goal.returns-then-is_empty-clause-frames
+returns-then-is_empty-clause-frames g c page others = refl
+
+pub returns-then-is_empty-clause-words : goal.returns-then-is_empty-clause-words
+returns-then-is_empty-clause-words g c told page others = refl
+
+pub returns-clause-frames : goal.returns-clause-frames
+returns-clause-frames g c =
+    subst (λ (pages : List ℕ). OthersKeepFrames pages c.args.self.now.store.held c.carry_out.new.self.held)
+    (sym c.in_ok-plan.ensures.pages ∙ sym (pages_same c.args.changes.now))
+    c.in_ok-carry_out.ensures.frames
+
+pub returns-clause-words : goal.returns-clause-words
+returns-clause-words g c told =
+    let kept = c.args.self.now.store in
+    subst (λ (after : List (List ℕ)). OthersKeepWords (pages_of (as_changes c.args.changes.now)) (image_of g.D.Disk.content kept) after)
+    (sym (c.in_ok-carry_out.ensures.image told))
+    (words_stay (as_changes c.args.changes.now) (image_of g.D.Disk.content kept))
+
+pub returns-then-is_empty-clause-gate_call : goal.returns-then-is_empty-clause-gate_call
+returns-then-is_empty-clause-gate_call g c some =
+    absurd (some (eqb-true (length c.args.changes.now) 0 (sym c.is_empty.ensures ∙ c.if-is_empty.true)))
