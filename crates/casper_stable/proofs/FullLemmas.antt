@@ -36,3 +36,8 @@ pub not_full : {T U : Type 0} (given : CommitFault) (result : Result U CommitFau
 not_full given result is causes need free there =
     let full : given ≡ fault.Full need free = err_same given (fault.Full need free) (sym (handed_on result given is) ∙ there) in
     ⊎_elim (λ disk. let other = err_same given fault.Disk disk in cc) (λ doubt. let other = err_same given fault.Doubt doubt in cc) causes
+
+-- a fault that was handed on is the one that the call had
+pub handed_back : {T U : Type 0} (given wanted : CommitFault) (result : Result U CommitFault) → IsErrAnd result (λ one. one ≡ given)
+    → IsErrOf result wanted → IsErrOf {T = T} {E = CommitFault} (Err given) wanted
+handed_back given wanted result is there = err_of given wanted (err_same given wanted (sym (handed_on result given is) ∙ there))

@@ -3,6 +3,7 @@ use Rattle.std.specs.Prelude.{Some, Option, Ok}
 use Rattle.std.specs.List.Sorted.{IsStrictlyIncreasing}
 use Rattle.std.proofs.lemmas.Bool.{eqb-false, eqb-true}
 use Rattle.casper_disk.specs.Disk.{Took}
+use Rattle.casper_disk.specs.declared.vault.CommitFault.TheVariants as fault
 use Rattle.casper_disk.specs.Vault.{IsOldOrNewImage, as_changes, lacking, version_after}
 use Rattle.casper_space.specs.Changes.{VaultRoom, pages_of, room_after}
 use Rattle.casper_root.specs.declared.body.Body.{Body}
@@ -12,7 +13,7 @@ use Rattle.casper_stable.specs.Leaves.{Leaves}
 use Rattle.casper_stable.specs.Others.{OthersKeepFrames, OthersKeepWords}
 use Rattle.casper_stable.proofs.GateLemmas.{words_stay}
 use Rattle.casper_stable.proofs.VaultLemmas.{none_found, took_sure, version_risen, room_risen, pages_same, full_kept}
-use Rattle.casper_stable.proofs.FullLemmas.{full_handed, not_full}
+use Rattle.casper_stable.proofs.FullLemmas.{full_handed, handed_back, not_full}
 use Rattle.casper_stable.proofs.vault.StableVault.commit.Goals as goal
 
 pub invariant_of-self : goal.invariant_of-self
@@ -145,3 +146,8 @@ returns-clause-words g c told =
 pub returns-then-is_empty-clause-gate_call : goal.returns-then-is_empty-clause-gate_call
 returns-then-is_empty-clause-gate_call g c some =
     absurd (some (eqb-true (length c.args.changes.now) 0 (sym c.is_empty.ensures ∙ c.if-is_empty.true)))
+
+pub returns-in_err-carry_out-clause-gate_call_in_doubt : goal.returns-in_err-carry_out-clause-gate_call_in_doubt
+returns-in_err-carry_out-clause-gate_call_in_doubt g c answer =
+    c.in_err-carry_out.ensures.gate_call_in_doubt
+    (handed_back c.in_err-carry_out.field-0.0 fault.Doubt c.from_residual-in_err-carry_out.result c.from_residual-in_err-carry_out.ensures.1 answer)
