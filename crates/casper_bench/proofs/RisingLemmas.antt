@@ -26,7 +26,7 @@ rising_on changes pages count least so high early = record {
       (λ other. let under = so.low k (omega (arith, below, other.1)) in omega (arith, under, high)) (eqb_tells k count);
   rising = λ k below. ⊎_elim
       (λ same. let under = so.low k (omega (arith, same.0)) in
-          subst (λ (at : ℕ). page_at changes k < page_at changes at) (sym same.0) (omega (arith, under, high)))
+      subst (λ (at : ℕ). page_at changes k < page_at changes at) (sym same.0) (omega (arith, under, high)))
       (λ other. so.rising k (omega (arith, below, other.1))) (eqb_tells (k + 1) count);
 }
 

@@ -44,9 +44,7 @@ pub fn commit(rt: &HostRuntime, file: &str, pages: u32, commits: u32) -> Result<
     let disk = stable.into_disk();
     println!(rt;
         "pages={pages} commits={commits} reads={} writes={} syncs={} used={used}",
-        disk.reads,
-        disk.writes,
-        disk.syncs
+        disk.reads, disk.writes, disk.syncs
     )?;
     Ok(())
 }

@@ -2,7 +2,9 @@
 #[derive(Clone, Copy)]
 pub enum Job<'a> {
     /// Make a store in a new file.
-    Make { file: &'a str },
+    Make {
+        file: &'a str,
+    },
     /// Commit so many random pages so many times.
     Commit {
         file: &'a str,

@@ -1,5 +1,5 @@
-use crate::tests::{commit_three, found, left, opened};
 use crate::Stable;
+use crate::tests::{commit_three, found, left, opened};
 use casper_disk::{CommitFault, Fail as Failing, Kind, MemDisk, Pick, Vault};
 use casper_words::{Frame, Page};
 use std::alloc::Global;
@@ -168,7 +168,10 @@ fn settles_forward(rt: HostRuntime) -> Result<(), Fail> {
         };
         let fails = [Failing { kind, number }, again];
         let mut stable = store_after(&rt, alloc, 1, &fails)?;
-        assert_eq!(rt; commit_three(&rt, alloc, &mut stable, 2)?, Err(CommitFault::Doubt));
+        assert_eq!(rt;
+            commit_three(&rt, alloc, &mut stable, 2)?,
+            Err(CommitFault::Doubt)
+        );
         assert!(rt; stable.settle().is_err());
         assert!(rt; stable.in_doubt());
         assert_eq!(rt; stable.settle(), Ok(3));
@@ -189,7 +192,10 @@ fn needs_a_frame_for_each_page_and_map_block(rt: HostRuntime) -> Result<(), Fail
     };
     assert!(rt; stable.pages() >= 2048);
     assert!(rt; !stable.in_doubt());
-    let two = [(Page(0), Frame::zero(alloc)?), (Page(1024), Frame::zero(alloc)?)];
+    let two = [
+        (Page(0), Frame::zero(alloc)?),
+        (Page(1024), Frame::zero(alloc)?),
+    ];
     let full = CommitFault::Full { need: 4, free: 3 };
     assert_eq!(rt; stable.commit(alloc, &two), Err(full));
     assert!(rt; !stable.in_doubt());

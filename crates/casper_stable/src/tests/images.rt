@@ -1,6 +1,6 @@
 use crate::Stable;
-use crate::tests::opening::{Patch, new_store, overwrite, refusal};
 use crate::tests::opened;
+use crate::tests::opening::{Patch, new_store, overwrite, refusal};
 use casper_disk::{CommitFault, Disk, MemDisk, Vault};
 use casper_root::OpenFault;
 use casper_words::{Block, Frame, Page};
@@ -72,10 +72,7 @@ fn refuses_one_frame_for_two_pages(rt: HostRuntime) -> Result<(), Fail> {
 fn ends_at_the_last_version(rt: HostRuntime) -> Result<(), Fail> {
     let alloc = rt.alloc();
     let place = |from, bytes| Patch { at: 1, from, bytes };
-    let disk = patched(
-        alloc,
-        &[place(0, [0xFF; 4]), place(4, [0xFF, 0xFF, 0, 0])],
-    )?;
+    let disk = patched(alloc, &[place(0, [0xFF; 4]), place(4, [0xFF, 0xFF, 0, 0])])?;
     let mut stable: Stable<MemDisk> = opened(alloc, disk)?;
     assert_eq!(rt; stable.version(), 281_474_976_710_655);
     let change = [(Page(0), Frame::zero(alloc)?)];

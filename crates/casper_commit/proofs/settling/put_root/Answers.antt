@@ -74,23 +74,23 @@ returns-then-is_err-2-clause-gate_call_in_doubt g c answer =
     let known = from_ok c.prepare.result done c.prepare.ensures.known in
     record {
       call = record {
-      at_gate = between;
-      before = c.prepare.ensures.leads;
-      after = c.put_gate.ensures.leads;
-      counted = c.prepare.ensures.never_falls;
-      met = λ told was free base is.
-          let stands = subst (λ closed. StandsBeside closed (root_at c.prepare.new.standing was) free base (g.D.Disk.content between)
-          (g.D.Disk.loose between)) known (c.prepare.ensures.stands told was free base is) in
-          subst (λ (at : Slot). IsUntilGate g.D.Disk.content g.D.Disk.loose g.D.Disk.moment g.D.Disk.images_since
-          (record { slot = at; body = was }) free base c.args.disk.now between after) c.prepare.ensures.slot
-          (record {
-            old_alone = subst (λ (at : Slot). AddsImages g.D.Disk.moment g.D.Disk.images_since c.args.disk.now between (OpensTo
-                (record { slot = at; body = was }) free base)) (sym c.prepare.ensures.slot) (c.prepare.ensures.images told was free base is);
-            alone = stands;
-            settled = from_ok c.prepare.result done (c.prepare.ensures.settled told);
-            gate_alone = c.put_gate.ensures.gate_alone told;
-          });
-    };
+        at_gate = between;
+        before = c.prepare.ensures.leads;
+        after = c.put_gate.ensures.leads;
+        counted = c.prepare.ensures.never_falls;
+        met = λ told was free base is.
+            let stands = subst (λ closed. StandsBeside closed (root_at c.prepare.new.standing was) free base (g.D.Disk.content between)
+            (g.D.Disk.loose between)) known (c.prepare.ensures.stands told was free base is) in
+            subst (λ (at : Slot). IsUntilGate g.D.Disk.content g.D.Disk.loose g.D.Disk.moment g.D.Disk.images_since
+            (record { slot = at; body = was }) free base c.args.disk.now between after) c.prepare.ensures.slot
+            (record {
+              old_alone = subst (λ (at : Slot). AddsImages g.D.Disk.moment g.D.Disk.images_since c.args.disk.now between (OpensTo
+                  (record { slot = at; body = was }) free base)) (sym c.prepare.ensures.slot) (c.prepare.ensures.images told was free base is);
+              alone = stands;
+              settled = from_ok c.prepare.result done (c.prepare.ensures.settled told);
+              gate_alone = c.put_gate.ensures.gate_alone told;
+            });
+      };
       rose = from_err c.put_gate.result (sym c.is_err-2.ensures.value ∙ c.if-is_err-2.true) c.put_gate.ensures.counted;
     }
 

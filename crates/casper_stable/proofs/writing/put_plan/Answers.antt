@@ -133,19 +133,22 @@ returns-clause-gate_call_in_doubt g c answer =
     let after = c.put_root.new.disk in
     let known = c.args.standing.now.spare_closed in
     let frames = c.put_frames.ensures.never_falls in
-    record { call = record {
-      at_gate = called.at_gate;
-      before = g.met.D.Disk.leads_on disk middle called.at_gate c.put_frames.ensures.leads called.before;
-      after = called.after;
-      counted = (let later = called.counted in omega (arith, frames, later));
-      met = λ told was free base into is.
-          let root = root_at c.args.standing.now was in
-          let stood = called.met told was free base (c.put_frames.ensures.stands told known root free base into is) in record {
-            old_alone = adds_then g.D.Disk.moment g.D.Disk.images_since disk middle called.at_gate (OpensTo root free base)
-                (λ earlier later image order since. g.met.D.Disk.earlier_counts called.at_gate earlier later image told order since)
-                (c.put_frames.ensures.images told known root free base into is) stood.old_alone;
-            alone = stood.alone;
-            settled = stood.settled;
-            gate_alone = stood.gate_alone;
-          };
-    }; rose = fails.rose }
+    record {
+      call = record {
+        at_gate = called.at_gate;
+        before = g.met.D.Disk.leads_on disk middle called.at_gate c.put_frames.ensures.leads called.before;
+        after = called.after;
+        counted = (let later = called.counted in omega (arith, frames, later));
+        met = λ told was free base into is.
+            let root = root_at c.args.standing.now was in
+            let stood = called.met told was free base (c.put_frames.ensures.stands told known root free base into is) in record {
+              old_alone = adds_then g.D.Disk.moment g.D.Disk.images_since disk middle called.at_gate (OpensTo root free base)
+                  (λ earlier later image order since. g.met.D.Disk.earlier_counts called.at_gate earlier later image told order since)
+                  (c.put_frames.ensures.images told known root free base into is) stood.old_alone;
+              alone = stood.alone;
+              settled = stood.settled;
+              gate_alone = stood.gate_alone;
+            };
+      };
+      rose = fails.rose;
+    }

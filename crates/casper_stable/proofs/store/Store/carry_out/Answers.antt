@@ -524,16 +524,16 @@ returns-then-is_doubt-clause-gate_call_in_doubt g c answer =
     g.D.Disk.content g.D.Disk.loose g.D.Disk.moment g.D.Disk.images_since kept at_gate after) kept.disk after) c.self.view_is
     (record {
       call = record {
-      at_gate = called.at_gate;
-      before = called.before;
-      after = called.after;
-      counted = called.counted;
-      met = λ told.
-          let is = written_is (g.D.Disk.size own.disk) roots written fits whole planned c.requires.pages in
-          let sure = sure_of roots own.map own.doubt (g.D.Disk.content own.disk) (g.D.Disk.loose own.disk) none (c.self.invariant.1 told) in
-          until_gate g.D.Disk.content g.D.Disk.loose g.D.Disk.moment g.D.Disk.images_since kept written called.at_gate after sure
-          (goes_free sure.base roots written is sure.opens.map) (called.met told);
-    };
+        at_gate = called.at_gate;
+        before = called.before;
+        after = called.after;
+        counted = called.counted;
+        met = λ told.
+            let is = written_is (g.D.Disk.size own.disk) roots written fits whole planned c.requires.pages in
+            let sure = sure_of roots own.map own.doubt (g.D.Disk.content own.disk) (g.D.Disk.loose own.disk) none (c.self.invariant.1 told) in
+            until_gate g.D.Disk.content g.D.Disk.loose g.D.Disk.moment g.D.Disk.images_since kept written called.at_gate after sure
+            (goes_free sure.base roots written is sure.opens.map) (called.met told);
+      };
       rose = fails.rose;
     })
 
