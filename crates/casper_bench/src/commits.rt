@@ -89,7 +89,8 @@ fn draw(
     let mut changes = Vec::with_capacity(alloc, count as usize)?;
     for _page in 0..count {
         let word = random.next_word();
-        let step = (word as u32).checked_rem(stretch).unwrap_or(0);
+        let step = word.checked_rem(u64::from(stretch)).unwrap_or(0);
+        let step = u32::try_from(step).unwrap_or(0);
         let mut frame = Frame::zero(alloc)?;
         frame.set(0, word);
         changes.push((Page(first.saturating_add(step)), frame))?;

@@ -1,6 +1,7 @@
 use casper_disk::{CommitFault, ShelfFault};
 use casper_root::OpenFault;
 use casper_words::Memory;
+use std::alloc::AllocError;
 use std::io;
 
 /// Why a measurement ended early.
@@ -13,6 +14,12 @@ pub enum Fault {
     /// The pages of a commit are not in rising order, or not all in the store.
     Pages,
     Output,
+}
+
+impl From<AllocError> for Fault {
+    fn from(_: AllocError) -> Fault {
+        Fault::Memory
+    }
 }
 
 impl From<Memory> for Fault {
