@@ -26,7 +26,7 @@ use Rattle.casper_model.specs.View.{value_seen}
 use Rattle.casper_model.specs.Turn.{Turn, guarded, of_live, within, is_in_range, are_in_range}
 use Rattle.casper_model.specs.CallStep.{hit_turn, hit_behind, call_by, call_step, acquire_step, unless_load_failed, is_granted}
 use Rattle.casper_model.specs.WriteOutStep.{job_of, busy_lead, written_out, write_out_step, finish_turn, finish_step, settle_turn, settle_step}
-use Rattle.casper_model.specs.Step.{step, read_turn, write_turn, acquire_turn, serve_turn, stabilise_turn, depart_turn, vanish_turn, lose_turn}
+use Rattle.casper_model.specs.Step.{step, read_turn, write_turn, acquire_turn, hold_turn, heap_line_calls, serve_turn, stabilise_turn, depart_turn, vanish_turn, lose_turn}
 use Rattle.casper_model.specs.Run.{Happening, state_after}
 use Rattle.casper_model.specs.LegalHistory.{right_for}
 use Rattle.casper_model.specs.Rights.{NamesClients, AllNameClients}
@@ -165,6 +165,10 @@ module _ (A B P : State → Type 0) (base : IsKept A) (first : (state : State) �
       let turn = acquire_turn who wants outside in
       kept_live who state (within (are_in_range wants) turn) p
       (λ live. kept_guarded P (are_in_range wants state) answer.Range state turn p (λ inside. kept_acquire state who wants 1 outside client live b p))
+  kept_by_step state (event.Hold who wants) outside client b p =
+      let turn = hold_turn who wants outside in
+      kept_live who state (within (are_in_range wants) turn) p
+      (λ live. kept_guarded P (are_in_range wants state) answer.Range state turn p (λ inside. kept_acquire state who wants heap_line_calls outside client live b p))
   kept_by_step state (event.Serve who) outside client b p = kept_live who state (serve_turn who) p (λ live. turns.serving state who client live b p)
   kept_by_step state (event.Stabilise who) outside client b p = kept_live who state (stabilise_turn who) p (λ live. turns.stabilising state who client live b p)
   kept_by_step state (event.WriteOut lead) outside client b p = kept_write_out state outside lead (job_of state lead) refl b p
