@@ -76,7 +76,7 @@ noted_by_turns : KeptByTurns (λ state. ⊤) HasOrderlyStabilisations (λ state.
 noted_by_turns = record {
   hit = λ state who act page word value is calls known members can. members;
   joining = λ state who is orderly members. join_members state.shared (own_at state who) members;
-  acquiring = λ state who wants calls is live orderly members. acquire_members wants calls state.shared (own_at state who) members;
+  acquiring = λ state who wants calls any is live orderly members. acquire_members wants calls state.shared (own_at state who) members;
   serving = λ state who is live orderly members. serve_members state.shared (own_at state who) members;
   stabilising = λ state who is live orderly members. stabilise_members state.shared (own_at state who) members;
   departing = λ state who is live orderly members. depart_members state.shared (own_at state who) members;
