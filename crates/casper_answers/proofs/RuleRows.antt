@@ -75,4 +75,4 @@ heap_line_needs_its_room = ((refl, refl, refl), (refl, refl, refl))
 
 pub no_pages_need_no_frame : NoPagesNeedNoFrame
 unfolding clients crew_of association_of
-no_pages_need_no_frame = (refl, refl, refl, refl, refl)
+no_pages_need_no_frame = (refl, refl, (refl, refl, refl))

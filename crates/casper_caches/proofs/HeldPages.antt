@@ -43,10 +43,25 @@ use Rattle.casper_model.specs.Run.{Happening}
 use Rattle.casper_model.specs.Step.{step}
 use Rattle.casper_model.specs.Outside.{Outside}
 use Rattle.casper_model.specs.declared.event.Event.{Event}
-use Rattle.casper_caches.specs.HeldPages.{HoldsEachOnce, IsCache, HasCaches, EveryCacheIsInOrder}
+use Rattle.casper_caches.specs.HeldPages.{HoldsEachOnce, IsCache, HasCaches, InEveryCache, EachPageIsHeldOnce, EachCacheIsWithin}
 use Rattle.casper_caches.proofs.Counts.{count_cons, count_append, count_take, count_reverse, count_filter, count_map, count_kept, count_none, count_filtered_out, length_kept, wants_once}
 
 -- Every turn keeps the caches in order.
+
+-- what stands first and what follows are counted together
+both_by : (other : ℕ) (want : Want) (first second list : List Want) → count_by (is_of other) first + count_by (is_of other) second ≡ count_by (is_of other) list
+    → (here : Bool)
+    → count_by (is_of other) (cond here (want ∷ first) first) + count_by (is_of other) (cond (not here) (want ∷ second) second) ≡ count_by (is_of other) (want ∷ list)
+both_by other want first second list rest true =
+    let e = count_cons (is_of other) want first in let g = count_cons (is_of other) want list in omega (arith, e, g, rest)
+both_by other want first second list rest false =
+    let e = count_cons (is_of other) want second in let g = count_cons (is_of other) want list in omega (arith, e, g, rest)
+
+count_both : (other at : ℕ) (list : List Want)
+    → count_by (is_of other) (filter (is_of at) list) + count_by (is_of other) (filter (λ want. not (is_of at want)) list) ≡ count_by (is_of other) list
+count_both other at [] = refl
+count_both other at (want ∷ list) =
+    both_by other want (filter (is_of at) list) (filter (λ (one : Want). not (is_of at one)) list) list (count_both other at list) (is_of at want)
 
 -- the room of each client's cache as a session begins
 capacity_place : (capacity first count at : ℕ) (other : Own) → at < count
@@ -62,7 +77,7 @@ module _ (capacity : ℕ) where
   empty_cache own none same = record {
     once = λ page. let e : count_by (is_of page) own.held ≡ 0 = ap (count_by (is_of page)) none in omega (arith, e);
     within = let e : length own.held ≡ 0 = ap length none in omega (arith, e);
-    capacity = same;
+    room = same;
   }
 
   -- pages given up, or kept for reading
@@ -78,7 +93,7 @@ module _ (capacity : ℕ) where
         let fewer = count_kept (is_of page) keep (kept_page keep less page) own.held in
         let before = cache.once page in omega (arith, fewer, before);
     within = let fewer = length_kept keep own.held in let before = cache.within in omega (arith, fewer, before);
-    capacity = cache.capacity;
+    room = cache.room;
   }
 
   lowered_cache : (own : Own) → IsCache capacity own → IsCache capacity (record own { held = map lowered own.held })
@@ -87,7 +102,7 @@ module _ (capacity : ℕ) where
         let same = count_map (is_of page) lowered (λ want. refl) own.held in
         let before = cache.once page in omega (arith, same, before);
     within = let same : length (map lowered own.held) ≡ length own.held = length-map own.held lowered in let before = cache.within in omega (arith, same, before);
-    capacity = cache.capacity;
+    room = cache.room;
   }
 
   handed_cache : (both : Both) (one : Option Stabilisation) → IsCache capacity both.own → IsCache capacity (handed_in_to both one).own
@@ -98,7 +113,7 @@ module _ (capacity : ℕ) where
   same_held own after held room cache = record {
     once = λ page. subst (λ list. count_by (is_of page) list ≤ 1) (sym held) (cache.once page);
     within = subst (λ list. length list ≤ capacity) (sym held) cache.within;
-    capacity = room ∙ cache.capacity;
+    room = room ∙ cache.room;
   }
 
   pub opened_cache : (shared : Shared) (own : Own) → IsCache capacity own → IsCache capacity (opened shared own).own
@@ -155,9 +170,9 @@ module _ (capacity : ℕ) where
   granted_cache : 4 ≤ capacity → (wants : List Want) → AreWants wants → (own : Own) (cap : ℕ) → IsCache capacity own
       → IsCache capacity (record own { cap = cap; held = with_granted own.capacity wants own.held })
   granted_cache room wants are own cap cache = record {
-    once = subst (λ count. HoldsEachOnce (with_granted count wants own.held)) (sym cache.capacity) (granted_once wants own.held are cache.once);
-    within = subst (λ count. length (with_granted count wants own.held) ≤ capacity) (sym cache.capacity) (granted_within wants own.held room are);
-    capacity = cache.capacity;
+    once = subst (λ count. HoldsEachOnce (with_granted count wants own.held)) (sym cache.room) (granted_once wants own.held are cache.once);
+    within = subst (λ count. length (with_granted count wants own.held) ≤ capacity) (sym cache.room) (granted_within wants own.held room are);
+    room = cache.room;
   }
 
   answered_cache : 4 ≤ capacity → (both : Both) (given : List ℕ) (wants missing : List Want) → AreWants wants → (refusal : Option Reply) → IsCache capacity both.own
@@ -167,18 +182,18 @@ module _ (capacity : ℕ) where
 
   pub acquired_cache : 4 ≤ capacity → (shared : Shared) (own : Own) (wants : List Want) (calls : ℕ) → AreWants wants → (fallen : Option Fallen) → IsCache capacity own
       → IsCache capacity (acquired_by shared own wants calls fallen).own
-  acquired_cache room shared own wants calls are (Some fallen) cache = empty_cache _ refl cache.capacity
+  acquired_cache room shared own wants calls are (Some fallen) cache = empty_cache _ refl cache.room
   acquired_cache room shared own wants calls are None cache =
       let both = opened shared own in
       answered_cache room both (given_in_opening shared own) wants (missing_once_opened shared own wants) are _ (opened_cache shared own cache)
 
   served_cache : (shared : Shared) (own : Own) (fallen : Option Fallen) → IsCache capacity own → IsCache capacity (served_by shared own fallen).own
-  served_cache shared own (Some fallen) cache = empty_cache _ refl cache.capacity
+  served_cache shared own (Some fallen) cache = empty_cache _ refl cache.room
   served_cache shared own None cache = opened_cache shared own cache
 
   departed_cache : (shared : Shared) (own : Own) (fallen : Option Fallen) → IsCache capacity own → IsCache capacity (departed_by shared own fallen).own
-  departed_cache shared own (Some fallen) cache = empty_cache _ refl cache.capacity
-  departed_cache shared own None cache = empty_cache _ refl (opened_cache shared own cache).capacity
+  departed_cache shared own (Some fallen) cache = empty_cache _ refl cache.room
+  departed_cache shared own None cache = empty_cache _ refl (opened_cache shared own cache).room
 
   stabilised_in_cache : (both : Both) (one : Option Stabilisation) → IsCache capacity both.own → IsCache capacity (stabilised_in both one).own
   stabilised_in_cache both None cache = lowered_cache both.own cache
@@ -189,14 +204,14 @@ module _ (capacity : ℕ) where
   stabilised_kept_cache both (Some outcome) cache = cache
 
   stabilised_cache : (shared : Shared) (own : Own) (fallen : Option Fallen) → IsCache capacity own → IsCache capacity (stabilised_by shared own fallen).own
-  stabilised_cache shared own (Some fallen) cache = empty_cache _ refl cache.capacity
+  stabilised_cache shared own (Some fallen) cache = empty_cache _ refl cache.room
   stabilised_cache shared own None cache = stabilised_kept_cache (opened shared own) (kept_at shared own.who) (opened_cache shared own cache)
 
   joined_cache : (shared : Shared) (own : Own) (place : Option Client) → IsCache capacity own → IsCache capacity (joined_by shared own place).own
   joined_cache shared own (Some client) cache = cache
   joined_cache shared own None cache =
       cond_both (free_room shared == 0) _ _ (λ (turn : Turned (Option JoinRefusal)). IsCache capacity turn.own) (λ full. cache)
-      (λ free. empty_cache _ refl cache.capacity)
+      (λ free. empty_cache _ refl cache.room)
 
   hit_cache : (own after : Own) (page : ℕ) → after.held ≡ with_first page own.held → after.capacity ≡ own.capacity → IsCache capacity own → IsCache capacity after
   hit_cache own after page held room cache = record {
@@ -212,29 +227,8 @@ module _ (capacity : ℕ) where
         let same : length after.held ≡ length (with_first page own.held) = ap length held in
         let before = cache.within in
         omega (arith, first, parts, same, before);
-    capacity = room ∙ cache.capacity;
+    room = room ∙ cache.room;
   }
-    where
-      count_both : (other at : ℕ) (list : List Want)
-          → count_by (is_of other) (filter (is_of at) list) + count_by (is_of other) (filter (λ (want : Want). not (is_of at want)) list) ≡ count_by (is_of other) list
-      count_both other at [] = refl
-      count_both other at (want ∷ list) = by_first (is_of at want)
-        where
-          rest : count_by (is_of other) (filter (is_of at) list) + count_by (is_of other) (filter (λ (one : Want). not (is_of at one)) list) ≡ count_by (is_of other) list
-          rest = count_both other at list
-
-          by_first : (here : Bool)
-              → count_by (is_of other) (cond here (want ∷ filter (is_of at) list) (filter (is_of at) list))
-              + count_by (is_of other) (cond (not here) (want ∷ filter (λ (one : Want). not (is_of at one)) list) (filter (λ (one : Want). not (is_of at one)) list))
-              ≡ count_by (is_of other) (want ∷ list)
-          by_first true =
-              let e = count_cons (is_of other) want (filter (is_of at) list) in
-              let g = count_cons (is_of other) want list in
-              omega (arith, e, g, rest)
-          by_first false =
-              let e = count_cons (is_of other) want (filter (λ (one : Want). not (is_of at one)) list) in
-              let g = count_cons (is_of other) want list in
-              omega (arith, e, g, rest)
 
   -- after a turn of a client
   cache_after : (state : State) (who : ℕ) (after : Shared) (own : Own) → InOrder state → IsClient who → own.who ≡ (own_at state who).who → IsCache capacity own
@@ -281,7 +275,7 @@ module _ (capacity : ℕ) where
     vanishing = λ state who is live order caches.
         let own = own_at state who in
         cache_after state who (vanish state.shared own).shared (vanish state.shared own).own order is refl
-        (empty_cache _ refl (caches who is).capacity) caches;
+        (empty_cache _ refl (caches who is).room) caches;
     losing = λ state who is live order caches. caches;
     writing = λ state outside lead one order caches job free. caches;
     finishing = λ state lead unfinished order caches e same. caches;
@@ -306,7 +300,13 @@ module _ (capacity : ℕ) where
       empty_cache (own_at (start vault pages limit capacity) who) (blank_at vault pages limit capacity who).held
       (capacity_place capacity 0 33 who (blank who 0) (let most = client.1 in omega (arith, most)))
 
-pub every_cache : EveryCacheIsInOrder
+pub every_cache : InEveryCache IsCache
 every_cache vault pages limit capacity happenings room named are =
     run_caches capacity room (start vault pages limit capacity) happenings named are (start_in_order vault pages limit capacity)
     (start_caches capacity vault pages limit)
+
+pub every_page_once : EachPageIsHeldOnce
+every_page_once vault pages limit capacity happenings room named are who client = (every_cache vault pages limit capacity happenings room named are who client).once
+
+pub every_cache_within : EachCacheIsWithin
+every_cache_within vault pages limit capacity happenings room named are who client = (every_cache vault pages limit capacity happenings room named are who client).within

@@ -19,14 +19,21 @@ HoldsEachOnce held = (page : ℕ) → count_by (is_of page) held ≤ 1
 pub record IsCache (capacity : ℕ) (own : Own) : Type 0 where
   pub once : HoldsEachOnce own.held
   pub within : length own.held ≤ capacity
-  pub capacity : own.capacity ≡ capacity
+  pub room : own.capacity ≡ capacity
 
 -- so is that of each client
 abbrev pub HasCaches : ℕ → State → Type 0
 HasCaches capacity state = (who : ℕ) → IsClient who → IsCache capacity (own_at state who)
 
--- at every moment of every run whose acquires name one to four rising pages, and whose caches have room for four at least
-abbrev pub EveryCacheIsInOrder : Type 0
-EveryCacheIsInOrder =
+-- a fact of each client's own part holds at every moment of every run whose acquires name one to four rising pages, and whose
+-- caches have room for four at least
+abbrev pub InEveryCache : (ℕ → Own → Type 0) → Type 0
+InEveryCache Holds =
     (vault : VaultState) (pages limit capacity : ℕ) (happenings : List Happening) → 4 ≤ capacity → AllNameClients happenings → AllWantsAre AreWants happenings
-    → HasCaches capacity (state_after (start vault pages limit capacity) happenings)
+    → (who : ℕ) → IsClient who → Holds capacity (own_at (state_after (start vault pages limit capacity) happenings) who)
+
+abbrev pub EachPageIsHeldOnce : Type 0
+EachPageIsHeldOnce = InEveryCache (λ capacity own. HoldsEachOnce own.held)
+
+abbrev pub EachCacheIsWithin : Type 0
+EachCacheIsWithin = InEveryCache (λ capacity own. length own.held ≤ capacity)
