@@ -1,1 +1,2 @@
 pub mod HeldPages
+pub mod LineLaws

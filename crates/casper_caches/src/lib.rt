@@ -3,4 +3,4 @@
 
 mod laws;
 
-pub use laws::law_of_held_pages;
+pub use laws::{law_of_held_pages, law_of_lines};
