@@ -3,4 +3,4 @@
 
 mod laws;
 
-pub use laws::{law_of_held_pages, law_of_lines};
+pub use laws::{law_of_caches, law_of_held_pages, law_of_lines};
