@@ -30,3 +30,4 @@ mod RuleRows
 pub mod DoubtSteps
 pub mod AskTurns
 pub mod VaultSteps
+pub mod Replies

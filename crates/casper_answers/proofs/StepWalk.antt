@@ -94,7 +94,7 @@ only_first true = refl
 only_first false = refl
 
 -- an acquire is answered of its turn
-acquire_is_turn : (shared : Shared) (own : Own) (wants : List Want) (calls : ℕ) (fallen : Option Fallen)
+pub acquire_is_turn : (shared : Shared) (own : Own) (wants : List Want) (calls : ℕ) (fallen : Option Fallen)
     → is_without_turn (of_reply (acquired_by shared own wants calls fallen).reply) ≡ false
 acquire_is_turn shared own wants calls (Some fallen) = refl
 acquire_is_turn shared own wants calls None =

@@ -5,6 +5,7 @@ ghost use Rattle.casper_answers.specs.StabiliseCauses.{EachGatheringHasItsCause,
 ghost use Rattle.casper_answers.specs.WriteOutCauses.{EachNoJobIsExact, EachVaultIsExact, EachWornHasItsCause, EachFullHasItsCause, EachFaultIsOfTheOutside, EachWrittenIsTheVersion, EachIsWrittenWhereItCan, EachFinishIsAsItEnded, EachSettleIsOfADoubt};
 ghost use Rattle.casper_answers.specs.Losses.{EachRollbackIsOfALoss, EachLossSparesTheOthers, EachLossEndsItsOwn, EachLossFellsItsAssociation, EachFallIsOfALoss, EachFallenClientIsMarked, EachToldFallIsTrue, EachToldClientIsUp, EachFallenClientIsTold, EachNoteIsOfALoss, EachFirstNoteStays, EachAnsweredNoteIsMade, NoGatheringHasANote, EachVanishingIsToldTruly, EachLossIsToldTruly};
 ghost use Rattle.casper_answers.specs.Acknowledgement.{EachKeptCommitIsTrue, EachStabiliseTellsTheKept, EachStabiliseTellsOnlyTheKept, EachToldCommitIsTrue, EachFinishedCommitHasItsMark, EachSettledCommitHasItsMark, EachAskerIsAMember, EachAskerStands, EachAskerHasNothingKept, EachAskerWaitsByItsOwn, EachAskerWaitsOn, EachUnderWayWaits, EachKeptOutcomeWasAsked, EachAskerIsTold, EachTurnDropsTheKept, OnlyTurnsDropTheKept};
+ghost use Rattle.casper_answers.specs.Replies.{NoJoinLacksMemory, NoAcquireLoads, EachFinishFailsAsItsWriteOut, EachToldFailureIsReal};
 
 /// At every moment of every session a commit that is kept for a client is the place of a commit mark that has the client
 /// as a member, and none of the client's writes stands after it, in the trail or pending. A stabilise tells a client an
@@ -131,4 +132,14 @@ pub fn law_of_places()
     ensures asks { EachAskIsLeftByOthers }
     ensures caps { EachCapIsAtMost }
     ensures vault { EachVaultIsLeft }
+{}
+
+/// What a server's turn may reply and no turn of the machine does: a join never replies that memory is short, and an acquire never
+/// that a page has to be read first. A finish that failed tells how its write-out did, which is neither done nor in doubt, and so
+/// does each failure that a stabilise tells. So each reply stands for the answer of its own. It does nothing.
+pub fn law_of_replies()
+    ensures join { NoJoinLacksMemory }
+    ensures acquire { NoAcquireLoads }
+    ensures finish { EachFinishFailsAsItsWriteOut }
+    ensures stabilise { EachToldFailureIsReal }
 {}
