@@ -1,8 +1,8 @@
 use Rattle.casper_model.specs.Run.{state_after}
 use Rattle.casper_model.specs.State.{start}
-use Rattle.casper_answers.specs.AcquireCauses.{EachInDoubtHasItsCause, EachFrozenHasItsCause, EachPendingHasItsCause, EachTrailFullHasItsCause, EachDiskHasItsCause, EachIsGrantedWhereNothingHinders, EachFreeAcquireIsGranted}
+use Rattle.casper_answers.specs.AcquireCauses.{EachInDoubtHasItsCause, EachFrozenHasItsCause, EachPendingHasItsCause, EachTrailFullHasItsCause, EachDiskHasItsCause, EachIsGrantedWhereNothingHinders, EachFreeAcquireIsGranted, EachGrantIsOfTheFree}
 use Rattle.casper_answers.proofs.AcquireTurns.{in_doubt_cause, frozen_cause, pending_cause, full_cause, disk_cause, granted_else}
-use Rattle.casper_answers.proofs.FreeAcquires.{free_granted}
+use Rattle.casper_answers.proofs.FreeAcquires.{free_granted, granted_free}
 use Rattle.casper_answers.proofs.Sessions.{every_session}
 
 -- The causes of what an acquire answers.
@@ -41,3 +41,8 @@ pub every_free : EachFreeAcquireIsGranted
 every_free vault pages limit capacity happenings none named =
     let session = every_session vault pages limit capacity happenings none named in
     free_granted (state_after (start vault pages limit capacity) happenings) session.answering.known
+
+pub every_grant_free : EachGrantIsOfTheFree
+every_grant_free vault pages limit capacity happenings none named =
+    let session = every_session vault pages limit capacity happenings none named in
+    granted_free (state_after (start vault pages limit capacity) happenings) session.answering.known

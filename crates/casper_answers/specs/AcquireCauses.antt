@@ -113,18 +113,23 @@ pub record NothingStandsInTheWay (before after : State) (who : ℕ) (wants : Lis
   pub clear : (other : ℕ) → IsClient other → StandsInTheWay before after who wants other → ⊥
 
 -- nothing hinders an acquire: its client has not fallen, it lacks nothing once it has opened or nothing stands in the way,
--- there is room for a touch of each page that it lacks and for the calls, and no page fails to be read
-pub record NothingHinders (state : State) (who : ℕ) (wants : List Want) (calls : ℕ) (outside : Outside) : Type 0 where
+-- and there is room for a touch of each page that it lacks and for the calls
+pub record NothingHinders (state : State) (who : ℕ) (wants : List Want) (calls : ℕ) : Type 0 where
   pub up : fallen_at state.shared who ≡ None
   pub pages : (lacking (once_opened state who) who wants ≡ []) ⊎ NothingStandsInTheWay state (once_opened state who) who wants
   pub room : length (lacking (once_opened state who) who wants) + calls ≤ (own_at (once_opened state who) who).cap
-  pub reads : is_load_failed outside ≡ false
 
--- such an acquire is granted
+-- such an acquire is granted where no page fails to be read
 abbrev pub GrantsTheFree : State → Type 0
 GrantsTheFree state =
     (who : ℕ) (wants : List Want) (calls : ℕ) (outside : Outside) → IsClient who → is_live state.shared who ≡ true
-    → NothingHinders state who wants calls outside → (acquire_step state who wants calls outside).answer ≡ answer.Granted
+    → NothingHinders state who wants calls → is_load_failed outside ≡ false → (acquire_step state who wants calls outside).answer ≡ answer.Granted
+
+-- and no other is
+abbrev pub GrantsOnlyTheFree : State → Type 0
+GrantsOnlyTheFree state =
+    (who : ℕ) (wants : List Want) (calls : ℕ) (outside : Outside) → IsClient who → is_live state.shared who ≡ true
+    → (acquire_step state who wants calls outside).answer ≡ answer.Granted → NothingHinders state who wants calls
 
 abbrev pub EachInDoubtHasItsCause : Type 0
 EachInDoubtHasItsCause = AtEachMoment InDoubtHasItsCause
@@ -146,3 +151,6 @@ EachIsGrantedWhereNothingHinders = AtEachMoment GrantedWhereNothingHinders
 
 abbrev pub EachFreeAcquireIsGranted : Type 0
 EachFreeAcquireIsGranted = AtEachMoment GrantsTheFree
+
+abbrev pub EachGrantIsOfTheFree : Type 0
+EachGrantIsOfTheFree = AtEachMoment GrantsOnlyTheFree

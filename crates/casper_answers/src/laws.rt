@@ -1,6 +1,6 @@
 ghost use Rattle.casper_answers.specs.Aftermath.{EachLeftClientIsAbsent, EachLiveClientStays, EachPendingAcquireAsks, EachOtherAcquireAsksNothing, EachAskIsLeftByOthers, EachCapIsAtMost, EachVaultIsLeft};
 ghost use Rattle.casper_answers.specs.Lives.{EachStabilisationEndsOnlySo, EachMemberStays, EachSealedOneStaysSo, EachDoubtStands, EachAwaitedOneIsAMember, EachGatheringAwaits};
-ghost use Rattle.casper_answers.specs.AcquireCauses.{EachInDoubtHasItsCause, EachFrozenHasItsCause, EachPendingHasItsCause, EachTrailFullHasItsCause, EachDiskHasItsCause, EachIsGrantedWhereNothingHinders, EachFreeAcquireIsGranted};
+ghost use Rattle.casper_answers.specs.AcquireCauses.{EachInDoubtHasItsCause, EachFrozenHasItsCause, EachPendingHasItsCause, EachTrailFullHasItsCause, EachDiskHasItsCause, EachIsGrantedWhereNothingHinders, EachFreeAcquireIsGranted, EachGrantIsOfTheFree};
 ghost use Rattle.casper_answers.specs.StabiliseCauses.{EachGatheringHasItsCause, EachSealedHasItsCause, EachDoingHasItsCause, EachFullJoinHasItsCause, EachJoinsWhereThereIsRoom};
 ghost use Rattle.casper_answers.specs.WriteOutCauses.{EachNoJobIsExact, EachVaultIsExact, EachWornHasItsCause, EachFullHasItsCause, EachFaultIsOfTheOutside, EachWrittenIsTheVersion, EachIsWrittenWhereItCan, EachFinishIsAsItEnded, EachSettleIsOfADoubt};
 ghost use Rattle.casper_answers.specs.Losses.{EachRollbackIsOfALoss, EachLossSparesTheOthers, EachLossEndsItsOwn, EachLossFellsItsAssociation, EachFallIsOfALoss, EachFallenClientIsMarked, EachToldFallIsTrue, EachToldClientIsUp, EachFallenClientIsTold, EachNoteIsOfALoss, EachFirstNoteStays, EachAnsweredNoteIsMade, NoGatheringHasANote, EachVanishingIsToldTruly, EachLossIsToldTruly};
@@ -94,8 +94,9 @@ pub fn law_of_joins_and_stabilises()
 /// lacked and the client or a lacked page belongs to an association in doubt; frozen only where nothing of this is in doubt
 /// and the association of this lead is; pending only where neither holds, and then it names exactly those that stand in the
 /// way; the trail is full, with its entries, only where what is promised is too little; and the disk failed only where a page
-/// could not be read. Where none of this is answered, and no fall, the pages are granted. Where the client has not fallen, and once
-/// it has opened nothing of this hinders, they are granted, whatever it holds. It does nothing.
+/// could not be read. Where none of this is answered, and no fall, the pages are granted. Where the
+/// client has not fallen and nothing of this hinders it once it has opened, they are granted, unless a page could not be read, and
+/// nowhere else. It does nothing.
 pub fn law_of_acquires()
     ensures doubt { EachInDoubtHasItsCause }
     ensures frozen { EachFrozenHasItsCause }
@@ -104,6 +105,7 @@ pub fn law_of_acquires()
     ensures disk { EachDiskHasItsCause }
     ensures granted { EachIsGrantedWhereNothingHinders }
     ensures free { EachFreeAcquireIsGranted }
+    ensures only { EachGrantIsOfTheFree }
 {}
 
 /// In each step of every session a stabilisation goes on, unless a finish or a settle ends it with an outcome, or a loss is

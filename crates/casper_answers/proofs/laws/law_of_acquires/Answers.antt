@@ -1,4 +1,4 @@
-use Rattle.casper_answers.proofs.AcquireLaws.{every_in_doubt, every_frozen, every_pending, every_trail_full, every_disk, every_granted, every_free}
+use Rattle.casper_answers.proofs.AcquireLaws.{every_in_doubt, every_frozen, every_pending, every_trail_full, every_disk, every_granted, every_free, every_grant_free}
 use Rattle.casper_answers.proofs.laws.law_of_acquires.Goals as goal
 
 pub returns-clause-doubt : goal.returns-clause-doubt
@@ -21,3 +21,6 @@ returns-clause-granted c = every_granted
 
 pub returns-clause-free : goal.returns-clause-free
 returns-clause-free c = every_free
+
+pub returns-clause-only : goal.returns-clause-only
+returns-clause-only c = every_grant_free
