@@ -1,7 +1,8 @@
 use Rattle.casper_model.specs.Run.{state_after}
 use Rattle.casper_model.specs.State.{start}
-use Rattle.casper_answers.specs.AcquireCauses.{EachInDoubtHasItsCause, EachFrozenHasItsCause, EachPendingHasItsCause, EachTrailFullHasItsCause, EachDiskHasItsCause, EachIsGrantedWhereNothingHinders}
+use Rattle.casper_answers.specs.AcquireCauses.{EachInDoubtHasItsCause, EachFrozenHasItsCause, EachPendingHasItsCause, EachTrailFullHasItsCause, EachDiskHasItsCause, EachIsGrantedWhereNothingHinders, EachFreeAcquireIsGranted, EachGrantIsOfTheFree}
 use Rattle.casper_answers.proofs.AcquireTurns.{in_doubt_cause, frozen_cause, pending_cause, full_cause, disk_cause, granted_else}
+use Rattle.casper_answers.proofs.FreeAcquires.{free_granted, granted_free}
 use Rattle.casper_answers.proofs.Sessions.{every_session}
 
 -- The causes of what an acquire answers.
@@ -35,3 +36,13 @@ pub every_granted : EachIsGrantedWhereNothingHinders
 every_granted vault pages limit capacity happenings none named =
     let session = every_session vault pages limit capacity happenings none named in
     granted_else (state_after (start vault pages limit capacity) happenings) session.answering.known
+
+pub every_free : EachFreeAcquireIsGranted
+every_free vault pages limit capacity happenings none named =
+    let session = every_session vault pages limit capacity happenings none named in
+    free_granted (state_after (start vault pages limit capacity) happenings) session.answering.known
+
+pub every_grant_free : EachGrantIsOfTheFree
+every_grant_free vault pages limit capacity happenings none named =
+    let session = every_session vault pages limit capacity happenings none named in
+    granted_free (state_after (start vault pages limit capacity) happenings) session.answering.known

@@ -50,10 +50,12 @@ module _ (shared : Shared) (who room : ℕ) (given : List ℕ) (missing : List W
     pub doubt : is_in_doubt shared who missing ≡ true
 
   pub record FrozenFacts (lead : ℕ) : Type 0 where
+    pub lacks : none_missing missing ≡ false
     pub sure : is_in_doubt shared who missing ≡ false
     pub frozen : frozen_lead shared who missing ≡ Some lead
 
   pub record PendingFacts (blockers : List ℕ) : Type 0 where
+    pub lacks : none_missing missing ≡ false
     pub sure : is_in_doubt shared who missing ≡ false
     pub thawed : frozen_lead shared who missing ≡ None
     pub are : blockers ≡ blockers_of shared who given missing
@@ -78,23 +80,23 @@ module _ (shared : Shared) (who room : ℕ) (given : List ℕ) (missing : List W
   or_facts None second one other = other refl
   or_facts (Some one) second is other = is
 
-  pending_facts : is_in_doubt shared who missing ≡ false → frozen_lead shared who missing ≡ None → IfFacts (refused_pending shared who given missing)
-  pending_facts sure thawed = by_empty (is_empty (blockers_of shared who given missing)) refl
+  pending_facts : none_missing missing ≡ false → is_in_doubt shared who missing ≡ false → frozen_lead shared who missing ≡ None → IfFacts (refused_pending shared who given missing)
+  pending_facts lacks sure thawed = by_empty (is_empty (blockers_of shared who given missing)) refl
     where
       by_empty : (none : Bool) → is_empty (blockers_of shared who given missing) ≡ none
           → IfFacts (cond none None (Some (reply.Pending (blockers_of shared who given missing))))
       by_empty true e = tt
-      by_empty false e = record { sure = sure; thawed = thawed; are = refl; some = e }
+      by_empty false e = record { lacks = lacks; sure = sure; thawed = thawed; are = refl; some = e }
 
-  frozen_facts : is_in_doubt shared who missing ≡ false → (lead : Option ℕ) → frozen_lead shared who missing ≡ lead
+  frozen_facts : none_missing missing ≡ false → is_in_doubt shared who missing ≡ false → (lead : Option ℕ) → frozen_lead shared who missing ≡ lead
       → IfFacts (option_or (option_map reply.Frozen lead) (refused_pending shared who given missing))
-  frozen_facts sure None e = pending_facts sure e
-  frozen_facts sure (Some lead) e = record { sure = sure; frozen = e }
+  frozen_facts lacks sure None e = pending_facts lacks sure e
+  frozen_facts lacks sure (Some lead) e = record { lacks = lacks; sure = sure; frozen = e }
 
   doubt_facts : none_missing missing ≡ false → (doubt : Bool) → is_in_doubt shared who missing ≡ doubt
       → IfFacts (option_or (cond doubt (Some reply.InDoubt) None) (option_or (refused_frozen shared who missing) (refused_pending shared who given missing)))
   doubt_facts lacks true e = record { lacks = lacks; doubt = e }
-  doubt_facts lacks false e = frozen_facts e (frozen_lead shared who missing) refl
+  doubt_facts lacks false e = frozen_facts lacks e (frozen_lead shared who missing) refl
 
   missing_facts : (none : Bool) → none_missing missing ≡ none
       → IfFacts (cond none None (option_or (refused_in_doubt shared who missing) (option_or (refused_frozen shared who missing) (refused_pending shared who given missing))))
@@ -135,7 +137,7 @@ some_made {X} {Y} f (first ∷ xs) x inside some = by_made (f first) refl (conta
 
 -- what the causes say of what is shared, and back
 module _ (shared : Shared) (who : ℕ) (missing : List Want) where
-  abbrev TouchesIn : Stabilisation → Type 0
+  abbrev pub TouchesIn : Stabilisation → Type 0
   TouchesIn one = (is_member shared who one ≡ true) ⊎ ((want : Want) × Contains missing want × (is_modified_in shared want.page one ≡ true))
 
   pub doubt_touches : is_in_doubt shared who missing ≡ true → (one : Stabilisation) × Contains shared.stabilisations one × (is_doubtful one.phase ≡ true) × TouchesIn one

@@ -30,6 +30,7 @@ turn_is_of : (state : State) (happened : Event) (given : Answer) (who : ℕ) →
 turn_is_of state (event.Read one page word) given who turn = (and_parts (one == who) _ turn).0
 turn_is_of state (event.Write one page word value) given who turn = (and_parts (one == who) _ turn).0
 turn_is_of state (event.Acquire one wants) given who turn = (and_parts (one == who) _ turn).0
+turn_is_of state (event.Hold one wants) given who turn = (and_parts (one == who) _ turn).0
 turn_is_of state (event.Serve one) given who turn = (and_parts (one == who) _ turn).0
 turn_is_of state (event.Stabilise one) given who turn = (and_parts (one == who) _ turn).0
 turn_is_of state (event.Depart one) given who turn = (and_parts (one == who) _ turn).0

@@ -32,7 +32,7 @@ use Rattle.casper_answers.proofs.Moves.{Joins, Moves, Begins}
 use Rattle.casper_answers.proofs.PlaceMoves.{FellPlace, PlaceMoves}
 use Rattle.casper_answers.proofs.StepMoves.{step_moved}
 use Rattle.casper_answers.proofs.StepPlaces.{step_places, still_tells, doubtful_once}
-use Rattle.casper_answers.proofs.StepWalk.{Acquires, by_read, by_write, by_wants, ShownByTurns, on_step}
+use Rattle.casper_answers.proofs.StepWalk.{Acquires, by_read, by_write, by_wants, by_hold, ShownByTurns, on_step}
 
 -- Who waits for an outcome is live and not fallen, and has nothing kept.
 
@@ -92,6 +92,7 @@ module _ (state : State) (known : IsOrderly state) where
   acquires_never_end who happened given after (by_read page word) one next inside may tells there same = true≢false (sym may)
   acquires_never_end who happened given after (by_write page word value) one next inside may tells there same = true≢false (sym may)
   acquires_never_end who happened given after (by_wants wanted) one next inside may tells there same = true≢false (sym may)
+  acquires_never_end who happened given after (by_hold wanted) one next inside may tells there same = true≢false (sym may)
 
   over_by_turns : ShownByTurns state (ToldIsOver state)
   over_by_turns = record {

@@ -577,7 +577,7 @@ pub commits_by_turns : KeptByTurns InOrder IsAnswering HoldCommits
 commits_by_turns = record {
   hit = λ state who act page word value is calls order holds can. hit_keeps state order holds who act page word value is can;
   joining = λ state who is well holds. joined_holds state well holds who is;
-  acquiring = λ state who wants calls is live well holds.
+  acquiring = λ state who wants calls any is live well holds.
       let own = own_at state who in
       let keeps = keeps_acquire wants calls state.shared own (stands_at state who well.known.history.order live) in
       turn_holds state well holds who _ _ live keeps.who keeps.others

@@ -20,6 +20,7 @@ pub mod JoinTurns
 pub mod WriteOutLaws
 pub mod StabiliseLaws
 pub mod AcquireTurns
+pub mod FreeAcquires
 pub mod AcquireLaws
 pub mod Aftermath
 pub mod AftermathLaws
@@ -29,3 +30,4 @@ mod RuleRows
 pub mod DoubtSteps
 pub mod AskTurns
 pub mod VaultSteps
+pub mod Replies

@@ -55,6 +55,7 @@ matches state (event.Join who) given = refl
 matches state (event.Read who page word) given = no_rollbacks (call_entries state who (record { page = page; right = may.Read }) given)
 matches state (event.Write who page word value) given = no_rollbacks (call_entries state who (record { page = page; right = may.Write }) given)
 matches state (event.Acquire who wants) given = no_rollbacks (acquire_entries state who wants given)
+matches state (event.Hold who wants) given = no_rollbacks (acquire_entries state who wants given)
 matches state (event.Serve who) given = no_rollbacks (turn_entries state who given)
 matches state (event.Stabilise who) given = no_rollbacks (turn_entries state who given)
 matches state (event.WriteOut lead) given = refl

@@ -1,7 +1,7 @@
 use Rattle.std.proofs.Common.{refl}
 use Rattle.casper_words.specs.Crew.{clients, crew_of}
 use Rattle.casper_trail.specs.Association.{association_of}
-use Rattle.casper_answers.specs.RuleRows.{StrangerAfterAFinish, RollbackBesideAGather, ServeInDoubt, LossNotedThenFull, LossNotedThenWorn, FrozenByTheFirstWant, FrozenByOnesOwn, InDoubtBeforeFrozen, PendingBeforeTrailFull, TrailFullTellsEntries, RoomForOneCall, AsksAreTheBlockedWants, OnePagePastTheEnd, DepartOfAFallenClient, WornBeforeFull, MapBlocksOfPages}
+use Rattle.casper_answers.specs.RuleRows.{StrangerAfterAFinish, RollbackBesideAGather, ServeInDoubt, LossNotedThenFull, LossNotedThenWorn, FrozenByTheFirstWant, FrozenByOnesOwn, InDoubtBeforeFrozen, PendingBeforeTrailFull, TrailFullTellsEntries, RoomForOneCall, AsksAreTheBlockedWants, OnePagePastTheEnd, DepartOfAFallenClient, WornBeforeFull, MapBlocksOfPages, HeapLineNeedsItsRoom, NoPagesNeedNoFrame}
 
 -- What the runs come to.
 
@@ -68,3 +68,11 @@ asks_are_the_blocked_wants = (refl, refl, refl)
 pub map_blocks_of_pages : MapBlocksOfPages
 unfolding clients crew_of association_of
 map_blocks_of_pages = ((refl, refl, refl), (refl, refl, refl))
+
+pub heap_line_needs_its_room : HeapLineNeedsItsRoom
+unfolding clients crew_of association_of
+heap_line_needs_its_room = ((refl, refl, refl), (refl, refl, refl))
+
+pub no_pages_need_no_frame : NoPagesNeedNoFrame
+unfolding clients crew_of association_of
+no_pages_need_no_frame = (refl, refl, (refl, refl, refl))

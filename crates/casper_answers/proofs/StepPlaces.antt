@@ -56,7 +56,7 @@ use Rattle.casper_answers.specs.Acknowledgement.{makes_turn, may_end, tells_outc
 use Rattle.casper_answers.specs.Aftermath.{is_gone}
 use Rattle.casper_answers.specs.Losses.{carried_out}
 use Rattle.casper_answers.proofs.PlaceMoves.{TurnedPlace, PlaceMoves, is_bare, bare_told, bare_acquired, bare_served, bare_stabilised_by, cap_acquired, cap_served, cap_stabilised, min_most, place_of_turn}
-use Rattle.casper_answers.proofs.StepWalk.{is_still, Acquires, by_read, by_write, by_wants, ShownByTurns, on_step}
+use Rattle.casper_answers.proofs.StepWalk.{is_still, Acquires, by_read, by_write, by_wants, by_hold, ShownByTurns, on_step}
 
 -- What each step makes of the place of each client.
 
@@ -202,16 +202,19 @@ module _ (state : State) (known : IsOrderly state) where
   acquires_end_nothing who happened (by_read page word) one may = true≢false (sym may)
   acquires_end_nothing who happened (by_write page word value) one may = true≢false (sym may)
   acquires_end_nothing who happened (by_wants wanted) one may = true≢false (sym may)
+  acquires_end_nothing who happened (by_hold wanted) one may = true≢false (sym may)
 
   pub acquires_carry_nothing : (who : ℕ) (happened : Event) (given : Answer) → Acquires who happened → carried_out state happened given ≡ None
   acquires_carry_nothing who happened given (by_read page word) = refl
   acquires_carry_nothing who happened given (by_write page word value) = refl
   acquires_carry_nothing who happened given (by_wants wanted) = refl
+  acquires_carry_nothing who happened given (by_hold wanted) = refl
 
   acquires_leave_nobody : (who : ℕ) (happened : Event) (given : Answer) → Acquires who happened → (number : ℕ) → (is_leave_of number happened && is_gone given) ≡ false
   acquires_leave_nobody who happened given (by_read page word) number = refl
   acquires_leave_nobody who happened given (by_write page word value) number = refl
   acquires_leave_nobody who happened given (by_wants wanted) number = refl
+  acquires_leave_nobody who happened given (by_hold wanted) number = refl
 
   -- a client that leaves
   left_place : (happened : Event) (given : Answer) (both : Both) (who : ℕ) → both.own.who ≡ who → who < length both.shared.clients → is_leave_of who happened ≡ true

@@ -31,7 +31,7 @@ use Rattle.casper_model.specs.Shared.{Shared, fallen_at, is_live}
 use Rattle.casper_model.specs.Stabilisation.{Stabilisation}
 use Rattle.casper_model.specs.Stabilise.{stabilise}
 use Rattle.casper_model.specs.State.{State, Unfinished, own_at}
-use Rattle.casper_model.specs.Step.{step, read_turn, write_turn, acquire_turn, serve_turn, stabilise_turn, depart_turn, vanish_turn, lose_turn}
+use Rattle.casper_model.specs.Step.{step, read_turn, write_turn, acquire_turn, hold_turn, heap_line_calls, serve_turn, stabilise_turn, depart_turn, vanish_turn, lose_turn}
 use Rattle.casper_model.specs.Turn.{Turn, of_live, within, is_in_range, are_in_range}
 use Rattle.casper_model.specs.View.{value_seen}
 use Rattle.casper_model.specs.WriteOutStep.{job_of, busy_lead, written_out, write_out_step, finish_turn, finish_step, settle_turn, settle_step, of_settled}
@@ -64,6 +64,7 @@ pub data Acquires (who : ℕ) : Event → Type 0 where
   by_read : (page word : ℕ) → Acquires who (event.Read who page word)
   by_write : (page word value : ℕ) → Acquires who (event.Write who page word value)
   by_wants : (wants : List Want) → Acquires who (event.Acquire who wants)
+  by_hold : (wants : List Want) → Acquires who (event.Hold who wants)
 
 -- what has to be shown of each kind of turn, so that a fact of the event, the answer and the shared part holds of each step
 pub record ShownByTurns (state : State) (Holds : Event → Answer → Shared → Type 0) : Type 0 where
@@ -93,7 +94,7 @@ only_first true = refl
 only_first false = refl
 
 -- an acquire is answered of its turn
-acquire_is_turn : (shared : Shared) (own : Own) (wants : List Want) (calls : ℕ) (fallen : Option Fallen)
+pub acquire_is_turn : (shared : Shared) (own : Own) (wants : List Want) (calls : ℕ) (fallen : Option Fallen)
     → is_without_turn (of_reply (acquired_by shared own wants calls fallen).reply) ≡ false
 acquire_is_turn shared own wants calls (Some fallen) = refl
 acquire_is_turn shared own wants calls None =
@@ -243,6 +244,14 @@ module _ (state : State) (Holds : Event → Answer → Shared → Type 0) (shown
       (λ live.
       on_within happened (are_in_range wanted) turn (λ other. never_both (who == other))
       (on_acquire happened who wanted 1 outside is live (by_wants wanted) (λ other. never_both (who == other))
+      (λ given of other. ap (λ one. (who == other) && not one) of ∙ only_first (who == other))))
+  on_step (event.Hold who wanted) outside is =
+      let happened = event.Hold who wanted in
+      let turn = hold_turn who wanted outside in
+      on_live happened who (within (are_in_range wanted) turn) (λ other. never_both (who == other))
+      (λ live.
+      on_within happened (are_in_range wanted) turn (λ other. never_both (who == other))
+      (on_acquire happened who wanted heap_line_calls outside is live (by_hold wanted) (λ other. never_both (who == other))
       (λ given of other. ap (λ one. (who == other) && not one) of ∙ only_first (who == other))))
   on_step (event.Serve who) outside is = on_live (event.Serve who) who (serve_turn who) (λ other. never_both (who == other)) (λ live. shown.serving who is live)
   on_step (event.Stabilise who) outside is =

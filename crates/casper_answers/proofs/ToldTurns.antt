@@ -31,7 +31,7 @@ use Rattle.casper_model.specs.Rights.{NamesClients, Agrees, AgreesUnlessFallen}
 use Rattle.casper_model.specs.Shared.{client_at, of_client, fallen_at}
 use Rattle.casper_model.specs.Stabilisation.{is_empty}
 use Rattle.casper_model.specs.State.{State, own_at, with_own, with_shared, after_turn}
-use Rattle.casper_model.specs.Step.{step, read_turn, write_turn, acquire_turn, serve_turn, depart_turn, vanish_turn, lose_turn}
+use Rattle.casper_model.specs.Step.{step, read_turn, write_turn, acquire_turn, hold_turn, heap_line_calls, serve_turn, depart_turn, vanish_turn, lose_turn}
 use Rattle.casper_model.specs.Turn.{Turn, within, is_in_range, are_in_range}
 use Rattle.casper_model.specs.View.{value_seen}
 use Rattle.casper_model.proofs.Places.{client_changed}
@@ -235,6 +235,12 @@ step_tells state known happened outside is who of = by_event happened is of
         (λ live.
         within_turn (TellsFalls state one) (are_in_range wants) state (acquire_turn one wants outside) (untold state one _ refl)
         (acquire_tells state known one named wants 1 outside)))
+    by_event (event.Hold one wants) named e =
+        subst (λ number. TellsFalls state number (step state (event.Hold one wants) outside)) (same one e)
+        (live_turn (TellsFalls state one) one state (within (are_in_range wants) (hold_turn one wants outside)) (untold state one _ refl)
+        (λ live.
+        within_turn (TellsFalls state one) (are_in_range wants) state (hold_turn one wants outside) (untold state one _ refl)
+        (acquire_tells state known one named wants heap_line_calls outside)))
     by_event (event.Serve one) named e =
         subst (λ number. TellsFalls state number (step state (event.Serve one) outside)) (same one e)
         (live_turn (TellsFalls state one) one state (serve_turn one) (untold state one _ refl) (λ live. serve_tells state known one named))

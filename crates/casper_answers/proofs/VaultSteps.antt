@@ -13,7 +13,7 @@ use Rattle.casper_model.specs.Hits.{can_hit}
 use Rattle.casper_model.specs.LegalHistory.{right_for}
 use Rattle.casper_model.specs.Outside.{Outside}
 use Rattle.casper_model.specs.State.{State, Unfinished, own_at}
-use Rattle.casper_model.specs.Step.{step, read_turn, write_turn, acquire_turn, serve_turn, stabilise_turn, depart_turn, vanish_turn, lose_turn}
+use Rattle.casper_model.specs.Step.{step, read_turn, write_turn, acquire_turn, hold_turn, heap_line_calls, serve_turn, stabilise_turn, depart_turn, vanish_turn, lose_turn}
 use Rattle.casper_model.specs.Turn.{Turn, within, is_in_range, are_in_range}
 use Rattle.casper_model.specs.View.{value_seen}
 use Rattle.casper_model.specs.WriteOutStep.{finish_step, finish_turn}
@@ -57,6 +57,9 @@ module _ (state : State) (outside : Outside) where
   leaves_vault (event.Acquire who wants) may_not =
       live_turn Left who state (within (are_in_range wants) (acquire_turn who wants outside)) refl
       (λ live. within_turn Left (are_in_range wants) state (acquire_turn who wants outside) refl (acquire_leaves who wants 1))
+  leaves_vault (event.Hold who wants) may_not =
+      live_turn Left who state (within (are_in_range wants) (hold_turn who wants outside)) refl
+      (λ live. within_turn Left (are_in_range wants) state (hold_turn who wants outside) refl (acquire_leaves who wants heap_line_calls))
   leaves_vault (event.Serve who) may_not = live_turn Left who state (serve_turn who) refl (λ live. refl)
   leaves_vault (event.Stabilise who) may_not = live_turn Left who state (stabilise_turn who) refl (λ live. refl)
   leaves_vault (event.WriteOut lead) may_not = absurd (true≢false may_not)

@@ -183,6 +183,7 @@ abbrev pub makes_turn : State → Event → Answer → ℕ → Bool
 makes_turn state (event.Read one page word) given who = (one == who) && (not (can_hit (own_at state one) page may.Read) && not (is_without_turn given))
 makes_turn state (event.Write one page word value) given who = (one == who) && (not (can_hit (own_at state one) page may.Write) && not (is_without_turn given))
 makes_turn state (event.Acquire one wants) given who = (one == who) && not (is_without_turn given)
+makes_turn state (event.Hold one wants) given who = (one == who) && not (is_without_turn given)
 makes_turn state (event.Serve one) given who = (one == who) && not (is_without_turn given)
 makes_turn state (event.Stabilise one) given who = (one == who) && not (is_without_turn given)
 makes_turn state (event.Depart one) given who = (one == who) && not (is_without_turn given)

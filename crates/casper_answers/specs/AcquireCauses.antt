@@ -1,4 +1,4 @@
-use Rattle.std.specs.Prelude.{◌≡◌, ◌≢◌, ◌⊎◌, ◌+◌, ◌<◌, ℕ, List, [], Bool, true, false, length, Contains}
+use Rattle.std.specs.Prelude.{◌≡◌, ◌≢◌, ◌⊎◌, ◌+◌, ◌<◌, ◌≤◌, ℕ, List, [], Bool, true, false, length, Option, None, Contains}
 use Rattle.casper_words.specs.Crew.{IsClient, has_member}
 use Rattle.casper_words.specs.declared.page.Want.{Want}
 use Rattle.casper_space.specs.declared.answer.Answer.{Answer}
@@ -8,11 +8,11 @@ use Rattle.casper_model.specs.Acquire.{blocks}
 use Rattle.casper_model.specs.CallStep.{acquire_step}
 use Rattle.casper_model.specs.Frozen.{is_member, is_modified_in}
 use Rattle.casper_model.specs.Held.{missing_of}
-use Rattle.casper_model.specs.Opening.{given_in_opening}
+use Rattle.casper_model.specs.Opening.{opened, given_in_opening}
 use Rattle.casper_model.specs.Outside.{Outside, is_load_failed}
-use Rattle.casper_model.specs.Shared.{is_live}
+use Rattle.casper_model.specs.Shared.{is_live, fallen_at}
 use Rattle.casper_model.specs.Stabilisation.{Stabilisation, is_doubtful}
-use Rattle.casper_model.specs.State.{State, own_at}
+use Rattle.casper_model.specs.State.{State, own_at, with_own, with_shared}
 use Rattle.casper_answers.specs.Sessions.{AtEachMoment}
 
 -- Why an acquire, also the one of a read or a write that is no hit, is answered so. A refused acquire has opened, and
@@ -100,6 +100,37 @@ GrantedWhereNothingHinders state =
     (who : ℕ) (wants : List Want) (calls : ℕ) (outside : Outside) → IsClient who → is_live state.shared who ≡ true
     → is_cause (acquire_step state who wants calls outside).answer ≡ false → (acquire_step state who wants calls outside).answer ≡ answer.Granted
 
+-- a state once a client's turn has opened in it
+abbrev pub once_opened : State → ℕ → State
+once_opened state who =
+    let both = opened state.shared (own_at state who) in
+    with_own (with_shared state both.shared) both.own
+
+-- none of what a client lacks is held up: by a doubt, by a frozen association, or by another client
+pub record NothingStandsInTheWay (before after : State) (who : ℕ) (wants : List Want) : Type 0 where
+  pub sure : IsTouchedByOne IsInDoubt after who wants → ⊥
+  pub thawed : (lead : ℕ) → IsTouchedByOne (IsFrozenBy lead) after who wants → ⊥
+  pub clear : (other : ℕ) → IsClient other → StandsInTheWay before after who wants other → ⊥
+
+-- nothing hinders an acquire: its client has not fallen, it lacks nothing once it has opened or nothing stands in the way,
+-- and there is room for a touch of each page that it lacks and for the calls
+pub record NothingHinders (state : State) (who : ℕ) (wants : List Want) (calls : ℕ) : Type 0 where
+  pub up : fallen_at state.shared who ≡ None
+  pub pages : (lacking (once_opened state who) who wants ≡ []) ⊎ NothingStandsInTheWay state (once_opened state who) who wants
+  pub room : length (lacking (once_opened state who) who wants) + calls ≤ (own_at (once_opened state who) who).cap
+
+-- such an acquire is granted where no page fails to be read
+abbrev pub GrantsTheFree : State → Type 0
+GrantsTheFree state =
+    (who : ℕ) (wants : List Want) (calls : ℕ) (outside : Outside) → IsClient who → is_live state.shared who ≡ true
+    → NothingHinders state who wants calls → is_load_failed outside ≡ false → (acquire_step state who wants calls outside).answer ≡ answer.Granted
+
+-- and no other is
+abbrev pub GrantsOnlyTheFree : State → Type 0
+GrantsOnlyTheFree state =
+    (who : ℕ) (wants : List Want) (calls : ℕ) (outside : Outside) → IsClient who → is_live state.shared who ≡ true
+    → (acquire_step state who wants calls outside).answer ≡ answer.Granted → NothingHinders state who wants calls
+
 abbrev pub EachInDoubtHasItsCause : Type 0
 EachInDoubtHasItsCause = AtEachMoment InDoubtHasItsCause
 
@@ -117,3 +148,9 @@ EachDiskHasItsCause = AtEachMoment DiskHasItsCause
 
 abbrev pub EachIsGrantedWhereNothingHinders : Type 0
 EachIsGrantedWhereNothingHinders = AtEachMoment GrantedWhereNothingHinders
+
+abbrev pub EachFreeAcquireIsGranted : Type 0
+EachFreeAcquireIsGranted = AtEachMoment GrantsTheFree
+
+abbrev pub EachGrantIsOfTheFree : Type 0
+EachGrantIsOfTheFree = AtEachMoment GrantsOnlyTheFree

@@ -8,3 +8,4 @@ pub mod Sessions
 pub mod StabiliseCauses
 pub mod WriteOutCauses
 pub mod RuleRows
+pub mod Replies

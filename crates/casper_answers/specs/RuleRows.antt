@@ -2,9 +2,9 @@ use Rattle.std.specs.Prelude.{◌≡◌, ℕ, List, [], ◌∷◌, ◌++◌, map
 use Rattle.casper_words.specs.declared.page.Right.TheVariants as may
 use Rattle.casper_words.specs.declared.page.Want.{Want}
 use Rattle.casper_space.specs.declared.answer.Answer.TheVariants.{Joined, Busy, Range, Value, Ok, Granted, Pending, Frozen, InDoubt, RolledBack, TrailFull, Gathering, Sealed, Doing, Doubtful, Commit, FailedWorn, Written, Full, Worn, Doubt, Undone, Left, LoseLost, LoseNoted}
-use Rattle.casper_space.specs.Changes.{last_version}
+use Rattle.casper_space.specs.Changes.{VaultRoom, last_version, need_of}
 use Rattle.casper_model.specs.declared.event.Event.{Event}
-use Rattle.casper_model.specs.declared.event.Event.TheVariants.{Join, Read, Write, Acquire, Serve, Stabilise, WriteOut, Finish, Settle, Depart, Lose}
+use Rattle.casper_model.specs.declared.event.Event.TheVariants.{Join, Read, Write, Acquire, Hold, Serve, Stabilise, WriteOut, Finish, Settle, Depart, Lose}
 use Rattle.casper_model.specs.Outside.{WriteOutDoubted}
 use Rattle.casper_model.specs.Row.{RunGives, GivesQuietly, quiet, usual}
 use Rattle.casper_model.specs.Run.{Happening, state_after}
@@ -167,3 +167,32 @@ MapBlocksOfPages =
     (Join 1 ∷ Write 1 0 0 1 ∷ Write 1 1023 0 1 ∷ Stabilise 1 ∷ WriteOut 1 ∷ [])
     (Joined ∷ Ok ∷ Ok ∷ Sealed 2 ∷ Written 2 ∷ [])
     (record { commits = 0; rollbacks = 0; version = 2 })
+
+-- four pages to write, as a heap line may want them
+abbrev pub four_pages : List Want
+four_pages = to_write 0 ∷ to_write 1 ∷ to_write 2 ∷ to_write 3 ∷ []
+
+-- a heap line needs room for a touch of each missing page and for 600 calls, and an acquire of the same pages for one call
+abbrev pub HeapLineNeedsItsRoom : Type 0
+HeapLineNeedsItsRoom =
+    GivesQuietly (zero_start 16 604 64)
+    (Join 1 ∷ Hold 1 four_pages ∷ Write 1 3 0 7 ∷ Read 1 3 0 ∷ [])
+    (Joined ∷ Granted ∷ Ok ∷ Value 7 ∷ [])
+    (record { commits = 0; rollbacks = 0; version = 1 })
+    × GivesQuietly (zero_start 16 603 64)
+    (Join 1 ∷ Hold 1 four_pages ∷ Acquire 1 four_pages ∷ [])
+    (Joined ∷ TrailFull 0 ∷ Granted ∷ [])
+    (record { commits = 0; rollbacks = 0; version = 1 })
+
+-- the room of a vault that writes one frame above its map blocks in each commit, and has none free
+abbrev pub full_room : VaultRoom
+full_room = record { frames = 1; pages = []; blocks = []; top = 1; extra = 1 }
+
+-- a commit of no pages needs no frame, so where none is free a client with no write stabilises
+abbrev pub NoPagesNeedNoFrame : Type 0
+NoPagesNeedNoFrame =
+    (need_of full_room [] ≡ 0) × (need_of full_room (5 ∷ []) ≡ 3)
+    × GivesQuietly (start (record (zero_vault 1024) { room = Some full_room }) 1024 4194304 64)
+    (Join 1 ∷ Stabilise 1 ∷ WriteOut 1 ∷ Finish 1 ∷ [])
+    (Joined ∷ Sealed 0 ∷ Written 1 ∷ Commit 0 ∷ [])
+    (record { commits = 1; rollbacks = 0; version = 1 })

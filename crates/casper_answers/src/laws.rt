@@ -1,10 +1,11 @@
 ghost use Rattle.casper_answers.specs.Aftermath.{EachLeftClientIsAbsent, EachLiveClientStays, EachPendingAcquireAsks, EachOtherAcquireAsksNothing, EachAskIsLeftByOthers, EachCapIsAtMost, EachVaultIsLeft};
 ghost use Rattle.casper_answers.specs.Lives.{EachStabilisationEndsOnlySo, EachMemberStays, EachSealedOneStaysSo, EachDoubtStands, EachAwaitedOneIsAMember, EachGatheringAwaits};
-ghost use Rattle.casper_answers.specs.AcquireCauses.{EachInDoubtHasItsCause, EachFrozenHasItsCause, EachPendingHasItsCause, EachTrailFullHasItsCause, EachDiskHasItsCause, EachIsGrantedWhereNothingHinders};
+ghost use Rattle.casper_answers.specs.AcquireCauses.{EachInDoubtHasItsCause, EachFrozenHasItsCause, EachPendingHasItsCause, EachTrailFullHasItsCause, EachDiskHasItsCause, EachIsGrantedWhereNothingHinders, EachFreeAcquireIsGranted, EachGrantIsOfTheFree};
 ghost use Rattle.casper_answers.specs.StabiliseCauses.{EachGatheringHasItsCause, EachSealedHasItsCause, EachDoingHasItsCause, EachFullJoinHasItsCause, EachJoinsWhereThereIsRoom};
 ghost use Rattle.casper_answers.specs.WriteOutCauses.{EachNoJobIsExact, EachVaultIsExact, EachWornHasItsCause, EachFullHasItsCause, EachFaultIsOfTheOutside, EachWrittenIsTheVersion, EachIsWrittenWhereItCan, EachFinishIsAsItEnded, EachSettleIsOfADoubt};
 ghost use Rattle.casper_answers.specs.Losses.{EachRollbackIsOfALoss, EachLossSparesTheOthers, EachLossEndsItsOwn, EachLossFellsItsAssociation, EachFallIsOfALoss, EachFallenClientIsMarked, EachToldFallIsTrue, EachToldClientIsUp, EachFallenClientIsTold, EachNoteIsOfALoss, EachFirstNoteStays, EachAnsweredNoteIsMade, NoGatheringHasANote, EachVanishingIsToldTruly, EachLossIsToldTruly};
 ghost use Rattle.casper_answers.specs.Acknowledgement.{EachKeptCommitIsTrue, EachStabiliseTellsTheKept, EachStabiliseTellsOnlyTheKept, EachToldCommitIsTrue, EachFinishedCommitHasItsMark, EachSettledCommitHasItsMark, EachAskerIsAMember, EachAskerStands, EachAskerHasNothingKept, EachAskerWaitsByItsOwn, EachAskerWaitsOn, EachUnderWayWaits, EachKeptOutcomeWasAsked, EachAskerIsTold, EachTurnDropsTheKept, OnlyTurnsDropTheKept};
+ghost use Rattle.casper_answers.specs.Replies.{NoJoinLacksMemory, NoAcquireLoads, EachFinishFailsAsItsWriteOut, EachToldFailureIsReal};
 
 /// At every moment of every session a commit that is kept for a client is the place of a commit mark that has the client
 /// as a member, and none of the client's writes stands after it, in the trail or pending. A stabilise tells a client an
@@ -93,7 +94,9 @@ pub fn law_of_joins_and_stabilises()
 /// lacked and the client or a lacked page belongs to an association in doubt; frozen only where nothing of this is in doubt
 /// and the association of this lead is; pending only where neither holds, and then it names exactly those that stand in the
 /// way; the trail is full, with its entries, only where what is promised is too little; and the disk failed only where a page
-/// could not be read. Where none of this is answered, and no fall, the pages are granted. It does nothing.
+/// could not be read. Where none of this is answered, and no fall, the pages are granted. Where the
+/// client has not fallen and nothing of this hinders it once it has opened, they are granted, unless a page could not be read, and
+/// nowhere else. It does nothing.
 pub fn law_of_acquires()
     ensures doubt { EachInDoubtHasItsCause }
     ensures frozen { EachFrozenHasItsCause }
@@ -101,6 +104,8 @@ pub fn law_of_acquires()
     ensures full { EachTrailFullHasItsCause }
     ensures disk { EachDiskHasItsCause }
     ensures granted { EachIsGrantedWhereNothingHinders }
+    ensures free { EachFreeAcquireIsGranted }
+    ensures only { EachGrantIsOfTheFree }
 {}
 
 /// In each step of every session a stabilisation goes on, unless a finish or a settle ends it with an outcome, or a loss is
@@ -129,4 +134,14 @@ pub fn law_of_places()
     ensures asks { EachAskIsLeftByOthers }
     ensures caps { EachCapIsAtMost }
     ensures vault { EachVaultIsLeft }
+{}
+
+/// What a server's turn may reply and no turn of the machine does: a join never replies that memory is short, and an acquire never
+/// that a page has to be read first. A finish that failed tells how its write-out did, which is neither done nor in doubt, and so
+/// does each failure that a stabilise tells. So each reply stands for the answer of its own. It does nothing.
+pub fn law_of_replies()
+    ensures join { NoJoinLacksMemory }
+    ensures acquire { NoAcquireLoads }
+    ensures finish { EachFinishFailsAsItsWriteOut }
+    ensures stabilise { EachToldFailureIsReal }
 {}

@@ -1,5 +1,5 @@
 ghost use Rattle.casper_answers.specs.AnswerRows.{KeptCommit, SealedWithAsker, NotedLoss, FallenClient, Gather, Doubt, PendingAsk};
-ghost use Rattle.casper_answers.specs.RuleRows.{StrangerAfterAFinish, RollbackBesideAGather, ServeInDoubt, LossNotedThenFull, LossNotedThenWorn, FrozenByTheFirstWant, FrozenByOnesOwn, InDoubtBeforeFrozen, PendingBeforeTrailFull, TrailFullTellsEntries, RoomForOneCall, OnePagePastTheEnd, DepartOfAFallenClient, WornBeforeFull, AsksAreTheBlockedWants, MapBlocksOfPages};
+ghost use Rattle.casper_answers.specs.RuleRows.{StrangerAfterAFinish, RollbackBesideAGather, ServeInDoubt, LossNotedThenFull, LossNotedThenWorn, FrozenByTheFirstWant, FrozenByOnesOwn, InDoubtBeforeFrozen, PendingBeforeTrailFull, TrailFullTellsEntries, RoomForOneCall, OnePagePastTheEnd, DepartOfAFallenClient, WornBeforeFull, AsksAreTheBlockedWants, MapBlocksOfPages, HeapLineNeedsItsRoom, NoPagesNeedNoFrame};
 
 /// Runs that meet what the laws suppose, worked out. It does nothing.
 pub fn rows_of_answers()
@@ -30,4 +30,6 @@ pub fn rows_of_rules()
     ensures worn_before_full { WornBeforeFull }
     ensures asks_are_the_blocked_wants { AsksAreTheBlockedWants }
     ensures map_blocks_of_pages { MapBlocksOfPages }
+    ensures heap_line_room { HeapLineNeedsItsRoom }
+    ensures no_pages { NoPagesNeedNoFrame }
 {}

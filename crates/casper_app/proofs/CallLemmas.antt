@@ -39,6 +39,7 @@ none_by state (event.Join who) given client none = refl
 none_by state (event.Read who page word) given client none = refused_by_more (who == client) (is_some (fallen_at state.shared who)) (is_rolled_back given) none
 none_by state (event.Write who page word value) given client none = refused_by_more (who == client) (is_some (fallen_at state.shared who)) (is_rolled_back given) none
 none_by state (event.Acquire who wants) given client none = refused_by_more (who == client) (is_some (fallen_at state.shared who)) (is_rolled_back given) none
+none_by state (event.Hold who wants) given client none = refused_by_more (who == client) (is_some (fallen_at state.shared who)) (is_rolled_back given) none
 none_by state (event.Serve who) given client none = refused_by_more (who == client) (is_some (fallen_at state.shared who)) (is_rolled_back given) none
 none_by state (event.Stabilise who) given client none = refused_by_more (who == client) (is_some (fallen_at state.shared who)) (is_rolled_back given) none
 none_by state (event.WriteOut lead) given client none = refl

@@ -115,6 +115,7 @@ events_are_read_back (event.Acquire who wants) in_ranges =
     ∙ ap (option_map (λ (ws : List Want). event.Acquire who ws)) (wants_read_back wants in_ranges.1)
 events_are_read_back (event.Serve who) in_ranges = ap (option_map (λ (w : ℕ). event.Serve w)) (client_read_back who in_ranges)
 events_are_read_back (event.Depart who) in_ranges = ap (option_map (λ (w : ℕ). event.Depart w)) (client_read_back who in_ranges)
+events_are_read_back (event.Hold who wants) in_ranges = absurd in_ranges
 events_are_read_back (event.Stabilise who) in_ranges = absurd in_ranges
 events_are_read_back (event.WriteOut lead) in_ranges = absurd in_ranges
 events_are_read_back (event.Finish lead) in_ranges = absurd in_ranges

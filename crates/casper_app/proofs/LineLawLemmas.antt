@@ -49,6 +49,7 @@ some_words (event.Write who page word value) is none = cc
 some_words (event.Acquire who wants) is none = cc
 some_words (event.Serve who) is none = cc
 some_words (event.Depart who) is none = cc
+some_words (event.Hold who wants) is none = is
 some_words (event.Stabilise who) is none = is
 some_words (event.WriteOut lead) is none = is
 some_words (event.Finish lead) is none = is

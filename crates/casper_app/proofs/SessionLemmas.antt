@@ -50,6 +50,7 @@ client_named (event.Write who page word value) is = is.0
 client_named (event.Acquire who wants) is = is.0
 client_named (event.Serve who) is = is
 client_named (event.Depart who) is = is
+client_named (event.Hold who wants) is = absurd is
 client_named (event.Stabilise who) is = absurd is
 client_named (event.WriteOut lead) is = absurd is
 client_named (event.Finish lead) is = absurd is

@@ -34,6 +34,7 @@ built (event.Write who page word value) is = tt
 built (event.Acquire who wants) is = tt
 built (event.Serve who) is = tt
 built (event.Depart who) is = tt
+built (event.Hold who wants) is = absurd is
 built (event.Stabilise who) is = absurd is
 built (event.WriteOut lead) is = absurd is
 built (event.Finish lead) is = absurd is

@@ -62,6 +62,7 @@ names who (event.Read other page word) is client = subst IsClient (sym is) clien
 names who (event.Write other page word value) is client = subst IsClient (sym is) client
 names who (event.Acquire other wants) is client = subst IsClient (sym is) client
 names who (event.Serve other) is client = subst IsClient (sym is) client
+names who (event.Hold other wants) is client = absurd is
 names who (event.Stabilise other) is client = absurd is
 names who (event.WriteOut lead) is client = absurd is
 names who (event.Finish lead) is client = absurd is
@@ -81,6 +82,7 @@ stays_stable who (event.Acquire other wants) is outside state =
     stable_stays (own_at state other).who (own_at state other).pending state.shared.trail (step state (event.Acquire other wants) outside).state.shared.trail (step_adds state (event.Acquire other wants) outside)
 stays_stable who (event.Serve other) is outside state =
     stable_stays (own_at state other).who (own_at state other).pending state.shared.trail (step state (event.Serve other) outside).state.shared.trail (step_adds state (event.Serve other) outside)
+stays_stable who (event.Hold other wants) is outside state = absurd is
 stays_stable who (event.Stabilise other) is outside state = absurd is
 stays_stable who (event.WriteOut lead) is outside state = absurd is
 stays_stable who (event.Finish lead) is outside state = absurd is
@@ -103,6 +105,7 @@ is_turn who (event.Acquire other wants) is outside state live =
     ∙ passed_by (is_live state.shared who) answer.Absent state (within (are_in_range wants) (acquire_turn who wants outside)) live
 is_turn who (event.Serve other) is outside state live =
     ap (λ number. step state (event.Serve number) outside) is ∙ passed_by (is_live state.shared who) answer.Absent state (serve_turn who) live
+is_turn who (event.Hold other wants) is outside state live = absurd is
 is_turn who (event.Stabilise other) is outside state live = absurd is
 is_turn who (event.WriteOut lead) is outside state live = absurd is
 is_turn who (event.Finish lead) is outside state live = absurd is
@@ -126,6 +129,7 @@ is_absent who (event.Acquire other wants) is outside state gone =
     ∙ refused_by (is_live state.shared who) answer.Absent state (within (are_in_range wants) (acquire_turn who wants outside)) gone
 is_absent who (event.Serve other) is outside state gone =
     ap (λ number. step state (event.Serve number) outside) is ∙ refused_by (is_live state.shared who) answer.Absent state (serve_turn who) gone
+is_absent who (event.Hold other wants) is outside state gone = absurd is
 is_absent who (event.Stabilise other) is outside state gone = absurd is
 is_absent who (event.WriteOut lead) is outside state gone = absurd is
 is_absent who (event.Finish lead) is outside state gone = absurd is
@@ -143,6 +147,7 @@ is_turn_with who (event.Read other page word) is said state live =
 is_turn_with who (event.Write other page word value) is said state live = is_turn who (event.Write other page word value) is (outside_of said) state live
 is_turn_with who (event.Acquire other wants) is said state live = is_turn who (event.Acquire other wants) is (outside_of said) state live
 is_turn_with who (event.Serve other) is said state live = is_turn who (event.Serve other) is (outside_of said) state live
+is_turn_with who (event.Hold other wants) is said state live = absurd is
 is_turn_with who (event.Stabilise other) is said state live = absurd is
 is_turn_with who (event.WriteOut lead) is said state live = absurd is
 is_turn_with who (event.Finish lead) is said state live = absurd is
@@ -160,6 +165,7 @@ is_absent_with who (event.Read other page word) is said state gone =
 is_absent_with who (event.Write other page word value) is said state gone = is_absent who (event.Write other page word value) is (outside_of said) state gone
 is_absent_with who (event.Acquire other wants) is said state gone = is_absent who (event.Acquire other wants) is (outside_of said) state gone
 is_absent_with who (event.Serve other) is said state gone = is_absent who (event.Serve other) is (outside_of said) state gone
+is_absent_with who (event.Hold other wants) is said state gone = absurd is
 is_absent_with who (event.Stabilise other) is said state gone = absurd is
 is_absent_with who (event.WriteOut lead) is said state gone = absurd is
 is_absent_with who (event.Finish lead) is said state gone = absurd is

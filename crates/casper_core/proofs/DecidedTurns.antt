@@ -169,6 +169,7 @@ module _ {V : Type 0} (core : CoreView V) (sound : IsSound core) (state : State)
   by_event (event.Serve who) said built is =
       decided_where (is_live state.shared who) (hub.is_live core.hub who) true true said (live_here who) refl
       (decided_by (is_live state.shared who) (λ one. true) state said (serve_turn who) (of_serve (serve state.shared (own_at state who)).reply) is)
+  by_event (event.Hold who wants) said built is = absurd built
   by_event (event.Stabilise who) said built is = absurd built
   by_event (event.WriteOut lead) said built is = absurd built
   by_event (event.Finish lead) said built is = absurd built

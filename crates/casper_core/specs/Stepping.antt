@@ -19,6 +19,7 @@ IsBuilt (event.Join who) = ⊤
 IsBuilt (event.Read who page word) = ⊤
 IsBuilt (event.Write who page word value) = ⊤
 IsBuilt (event.Acquire who wants) = ⊤
+IsBuilt (event.Hold who wants) = ⊥
 IsBuilt (event.Serve who) = ⊤
 IsBuilt (event.Stabilise who) = ⊥
 IsBuilt (event.WriteOut lead) = ⊥

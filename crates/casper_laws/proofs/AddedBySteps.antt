@@ -14,7 +14,7 @@ use Rattle.casper_model.specs.Rights.{InOrder}
 use Rattle.casper_model.specs.Run.{state_after}
 use Rattle.casper_model.specs.Shared.{fallen_at}
 use Rattle.casper_model.specs.State.{State, own_at, start}
-use Rattle.casper_model.specs.Step.{read_turn, write_turn, acquire_turn, serve_turn, stabilise_turn, depart_turn, vanish_turn, lose_turn}
+use Rattle.casper_model.specs.Step.{read_turn, write_turn, acquire_turn, hold_turn, heap_line_calls, serve_turn, stabilise_turn, depart_turn, vanish_turn, lose_turn}
 use Rattle.casper_model.specs.Turn.{Turn, within, is_in_range, are_in_range}
 use Rattle.casper_model.specs.View.{value_seen}
 use Rattle.casper_model.proofs.RunRights.{every_run_rights}
@@ -59,6 +59,11 @@ step_adds_exactly state (event.Acquire who wants) outside order =
     live_turn Adds who state (within (are_in_range wants) (acquire_turn who wants outside)) (none_added state.shared.trail)
     (λ live.
     within_turn Adds (are_in_range wants) state (acquire_turn who wants outside) (none_added state.shared.trail) (acquire_step_adds state who order wants 1 outside))
+step_adds_exactly state (event.Hold who wants) outside order =
+    let Adds : Turn → Type 0 = AddsExactly state (event.Hold who wants) in
+    live_turn Adds who state (within (are_in_range wants) (hold_turn who wants outside)) (none_added state.shared.trail)
+    (λ live.
+    within_turn Adds (are_in_range wants) state (hold_turn who wants outside) (none_added state.shared.trail) (acquire_step_adds state who order wants heap_line_calls outside))
 step_adds_exactly state (event.Serve who) outside order =
     live_turn (AddsExactly state (event.Serve who)) who state (serve_turn who) (none_added state.shared.trail) (λ live. serve_step_adds state who order)
 step_adds_exactly state (event.Stabilise who) outside order =

@@ -196,7 +196,7 @@ well_by_turns : KeptByTurns Anywhere Anywhere (λ state. AreWell state.shared)
 well_by_turns = record {
   hit = λ state who act page word value is calls a are can. are;
   joining = λ state who is b are. let own = own_at state who in well_joined state.shared own (client_at state.shared own.who) are;
-  acquiring = λ state who wants calls is live b are.
+  acquiring = λ state who wants calls any is live b are.
       let own = own_at state who in well_acquired state.shared own wants calls (fallen_at state.shared own.who) are;
   serving = λ state who is live b are. let own = own_at state who in well_served state.shared own (fallen_at state.shared own.who) are;
   stabilising = λ state who is live b are. let own = own_at state who in well_stabilised_by state.shared own (fallen_at state.shared own.who) are;

@@ -17,7 +17,7 @@ use Rattle.casper_model.specs.Room.{free_room}
 use Rattle.casper_model.specs.Run.{state_after}
 use Rattle.casper_model.specs.Shared.{Shared, client_at, is_live}
 use Rattle.casper_model.specs.State.{State, own_at, start}
-use Rattle.casper_model.specs.Step.{step, read_turn, write_turn, acquire_turn, serve_turn, stabilise_turn, depart_turn, vanish_turn, lose_turn}
+use Rattle.casper_model.specs.Step.{step, read_turn, write_turn, acquire_turn, hold_turn, serve_turn, stabilise_turn, depart_turn, vanish_turn, lose_turn}
 use Rattle.casper_model.specs.Turn.{within, is_in_range, are_in_range}
 use Rattle.casper_model.proofs.RunRights.{every_run_rights}
 use Rattle.casper_laws.specs.AnswerLaws.{may_answer_present, may_answer, client_of, names_pages, is_absent, is_out_of_range, is_busy, lacks, is_past, KeepsOutcomes, IsAnsweredSo, AnswersAbsentExactly, AnswersRangeExactly, AnswersBusyExactly, GrantedCallsAreMade, EveryAnswerIsOfItsEvent, EveryAbsentClientIsToldSo, EveryPagePastTheStoreIsToldSo, EveryJoinOfTheLiveIsBusy}
@@ -32,6 +32,8 @@ absent_step state (event.Write who page word value) outside lack =
     refused_by (is_live state.shared who) answer.Absent state (within (is_in_range page word) (write_turn who page word value outside)) lack
 absent_step state (event.Acquire who wants) outside lack =
     refused_by (is_live state.shared who) answer.Absent state (within (are_in_range wants) (acquire_turn who wants outside)) lack
+absent_step state (event.Hold who wants) outside lack =
+    refused_by (is_live state.shared who) answer.Absent state (within (are_in_range wants) (hold_turn who wants outside)) lack
 absent_step state (event.Serve who) outside lack = refused_by (is_live state.shared who) answer.Absent state (serve_turn who) lack
 absent_step state (event.Stabilise who) outside lack = refused_by (is_live state.shared who) answer.Absent state (stabilise_turn who) lack
 absent_step state (event.Depart who) outside lack = refused_by (is_live state.shared who) answer.Absent state (depart_turn who) lack
@@ -54,6 +56,10 @@ range_step state (event.Acquire who wants) outside live past =
     let turn = acquire_turn who wants outside in
     let_live (λ one. one.answer ≡ answer.Range) who state (within (are_in_range wants) turn) live
     (refused_by (are_in_range wants state) answer.Range state turn past)
+range_step state (event.Hold who wants) outside live past =
+    let turn = hold_turn who wants outside in
+    let_live (λ one. one.answer ≡ answer.Range) who state (within (are_in_range wants) turn) live
+    (refused_by (are_in_range wants state) answer.Range state turn past)
 range_step state other outside live past = absurd (true≢false (sym past))
 
 lacks_some : (state : State) (who : Option ℕ) → lacks state who ≡ true → is_some who ≡ true
@@ -64,6 +70,7 @@ past_names : (state : State) (event : Event) → is_past state event ≡ true �
 past_names state (event.Read who page word) past = refl
 past_names state (event.Write who page word value) past = refl
 past_names state (event.Acquire who wants) past = refl
+past_names state (event.Hold who wants) past = refl
 past_names state other past = past
 
 -- answers that tell of one thing alone

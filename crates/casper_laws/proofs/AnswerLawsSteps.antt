@@ -37,7 +37,7 @@ use Rattle.casper_model.specs.Shared.{Shared, client_at, fallen_at, is_live}
 use Rattle.casper_model.specs.Stabilisation.{Stabilisation, Phase, Gathering, Sealed, Doubtful, is_empty, is_gathering}
 use Rattle.casper_model.specs.Stabilise.{stabilised_by, stabilised, stabilised_in, kept_at, reply_of_kept, reply_in_phase, reply_awaiting}
 use Rattle.casper_model.specs.State.{State, Unfinished, own_at}
-use Rattle.casper_model.specs.Step.{step, read_turn, write_turn, acquire_turn, serve_turn, stabilise_turn, depart_turn, vanish_turn, lose_turn}
+use Rattle.casper_model.specs.Step.{step, read_turn, write_turn, acquire_turn, hold_turn, heap_line_calls, serve_turn, stabilise_turn, depart_turn, vanish_turn, lose_turn}
 use Rattle.casper_model.specs.Turn.{Turn, guarded, of_live, within, is_in_range, are_in_range}
 use Rattle.casper_model.specs.View.{value_seen}
 use Rattle.casper_model.specs.WriteOutStep.{job_of, busy_lead, written_out, write_out_step, finish_turn, finish_step, of_settled, settle_turn, settle_step}
@@ -221,6 +221,11 @@ step_answers state (event.Acquire who wants) outside is order over live inside =
     let_live (λ one. may_answer_acquire one.answer ≡ true) who state (within (are_in_range wants) turn) live
     (let_be (λ one. may_answer_acquire one.answer ≡ true) (are_in_range wants state) answer.Range state turn inside
     (acquire_refused _ (acquire_answers state who wants 1 outside)))
+step_answers state (event.Hold who wants) outside is order over live inside =
+    let turn = hold_turn who wants outside in
+    let_live (λ one. may_answer_acquire one.answer ≡ true) who state (within (are_in_range wants) turn) live
+    (let_be (λ one. may_answer_acquire one.answer ≡ true) (are_in_range wants state) answer.Range state turn inside
+    (acquire_refused _ (acquire_answers state who wants heap_line_calls outside)))
 step_answers state (event.Serve who) outside is order over live inside =
     let own = own_at state who in
     let_live (λ one. may_answer_serve one.answer ≡ true) who state (serve_turn who) live (serve_answers state.shared own (fallen_at state.shared own.who))

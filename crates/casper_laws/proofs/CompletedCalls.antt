@@ -27,7 +27,7 @@ use Rattle.casper_model.specs.State.{State, Unfinished, own_at, with_own, start}
 use Rattle.casper_model.specs.View.{value_seen}
 use Rattle.casper_model.specs.Turn.{Turn, guarded, of_live, within, is_in_range, are_in_range}
 use Rattle.casper_model.specs.Run.{state_after}
-use Rattle.casper_model.specs.Step.{read_turn, write_turn, acquire_turn, serve_turn, stabilise_turn, depart_turn, vanish_turn, lose_turn}
+use Rattle.casper_model.specs.Step.{read_turn, write_turn, acquire_turn, hold_turn, heap_line_calls, serve_turn, stabilise_turn, depart_turn, vanish_turn, lose_turn}
 use Rattle.casper_model.specs.WriteOutStep.{job_of, busy_lead, written_out, write_out_step, finish_turn, finish_step, settle_turn, settle_step}
 use Rattle.casper_model.specs.Rights.{InOrder}
 use Rattle.casper_model.specs.LegalHistory.{right_for}
@@ -215,6 +215,12 @@ step_completes state (event.Acquire who wants) outside is order pending number =
     (λ live.
     within_turn (Keeps state who) (are_in_range wants) state (acquire_turn who wants outside) (refused_keeps state who answer.Range refl)
     (acquire_step_keeps state who wants 1 outside order is pending)) number)
+step_completes state (event.Hold who wants) outside is order pending number =
+    with_none _ _
+    (live_turn (Keeps state who) who state (within (are_in_range wants) (hold_turn who wants outside)) (refused_keeps state who answer.Absent refl)
+    (λ live.
+    within_turn (Keeps state who) (are_in_range wants) state (hold_turn who wants outside) (refused_keeps state who answer.Range refl)
+    (acquire_step_keeps state who wants heap_line_calls outside order is pending)) number)
 step_completes state (event.Serve who) outside is order pending number =
     with_none _ _ (live_turn (Keeps state who) who state (serve_turn who) (refused_keeps state who answer.Absent refl) (λ live. serve_keeps state who order is pending) number)
 step_completes state (event.Stabilise who) outside is order pending number =

@@ -54,7 +54,7 @@ falls_by_turns origin = record {
       let own = own_at state who in
       begun_falls origin state (join state.shared own).shared begun
       (falls_by_none state.shared (join state.shared own).shared (falls_joined state.shared own (client_at state.shared own.who) (below_places state who begun.order is)));
-  acquiring = λ state who wants calls is live begun falls.
+  acquiring = λ state who wants calls any is live begun falls.
       let own = own_at state who in
       begun_falls origin state (acquire state.shared own wants calls).shared begun
       (falls_by_none state.shared (acquire state.shared own wants calls).shared (falls_acquired wants calls state.shared own (stands_at state who begun.order live)));

@@ -29,7 +29,7 @@ use Rattle.casper_model.specs.Shared.{Shared, client_at, fallen_at, is_live}
 use Rattle.casper_model.specs.Stabilisation.{Stabilisation}
 use Rattle.casper_model.specs.Stabilise.{stabilise}
 use Rattle.casper_model.specs.State.{State, Unfinished, own_at, with_own, after_turn, start}
-use Rattle.casper_model.specs.Step.{step, read_turn, write_turn, acquire_turn, serve_turn, stabilise_turn, depart_turn, vanish_turn, lose_turn}
+use Rattle.casper_model.specs.Step.{step, read_turn, write_turn, acquire_turn, hold_turn, heap_line_calls, serve_turn, stabilise_turn, depart_turn, vanish_turn, lose_turn}
 use Rattle.casper_model.specs.Turn.{Turn, of_live, within, is_in_range, are_in_range}
 use Rattle.casper_model.specs.View.{value_seen}
 use Rattle.casper_model.specs.WriteOutStep.{job_of, busy_lead, written_out, write_out_step, finish_turn, finish_step, settle_turn, settle_step}
@@ -125,6 +125,9 @@ module _ (state : State) (order : InOrder state) (who : ℕ) where
   own_stays (event.Acquire one wants) outside is e =
       let turn = acquire_turn one wants outside in
       live_stays one (within (are_in_range wants) turn) (λ live. within_stays (are_in_range wants) turn (stays_acquire one wants 1 outside (away one e)))
+  own_stays (event.Hold one wants) outside is e =
+      let turn = hold_turn one wants outside in
+      live_stays one (within (are_in_range wants) turn) (λ live. within_stays (are_in_range wants) turn (stays_acquire one wants heap_line_calls outside (away one e)))
   own_stays (event.Serve one) outside is e =
       let own = own_at state one in
       live_stays one (serve_turn one)

@@ -28,7 +28,7 @@ use Rattle.casper_model.specs.Shared.{Shared, client_at, fallen_at, is_live}
 use Rattle.casper_model.specs.Stabilisation.{Stabilisation}
 use Rattle.casper_model.specs.Stabilise.{stabilised_by}
 use Rattle.casper_model.specs.State.{State, Unfinished, own_at, with_own, with_shared, after_turn, start}
-use Rattle.casper_model.specs.Step.{step, read_turn, write_turn, acquire_turn, serve_turn, stabilise_turn, depart_turn, vanish_turn, lose_turn}
+use Rattle.casper_model.specs.Step.{step, read_turn, write_turn, acquire_turn, hold_turn, heap_line_calls, serve_turn, stabilise_turn, depart_turn, vanish_turn, lose_turn}
 use Rattle.casper_model.specs.Turn.{Turn, guarded, of_live, within, is_in_range, are_in_range}
 use Rattle.casper_model.specs.View.{view, value_seen}
 use Rattle.casper_model.specs.WriteOutStep.{job_of, busy_lead, written_out, write_out_step, finish_turn, finish_step, settle_turn, settle_step}
@@ -222,6 +222,10 @@ module _ (state : State) (has : HasHistory state) (who page word : ℕ) (holds :
       let turn = acquire_turn one wants outside in
       sees_live one (within (are_in_range wants) turn)
       (λ live. sees_guarded (are_in_range wants state) answer.Range turn (λ inside. sees_acquire one wants 1 outside is live))
+  sees_step (event.Hold one wants) outside is e =
+      let turn = hold_turn one wants outside in
+      sees_live one (within (are_in_range wants) turn)
+      (λ live. sees_guarded (are_in_range wants state) answer.Range turn (λ inside. sees_acquire one wants heap_line_calls outside is live))
   sees_step (event.Serve one) outside is e =
       let own = own_at state one in
       sees_live one (serve_turn one)
@@ -260,6 +264,7 @@ no_write_of who page word (event.Write one at place value) e = ap (λ is. is && 
 no_write_of who page word (event.Join one) e = refl
 no_write_of who page word (event.Read one at place) e = refl
 no_write_of who page word (event.Acquire one wants) e = refl
+no_write_of who page word (event.Hold one wants) e = refl
 no_write_of who page word (event.Serve one) e = refl
 no_write_of who page word (event.Stabilise one) e = refl
 no_write_of who page word (event.WriteOut lead) e = refl

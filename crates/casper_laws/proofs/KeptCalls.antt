@@ -75,7 +75,7 @@ calls_by_turns = record {
       calls_after state who state.shared (with_call own act page word value) order is refl
       (one_more_call own.pending (record { op = act; page = page; word = word; value = value }) (calls who) kind) calls;
   joining = λ state who is order calls. joined_calls state who order is calls (client_at state.shared (own_at state who).who);
-  acquiring = λ state who wants count is live order calls.
+  acquiring = λ state who wants count any is live order calls.
       emptied_calls state who (acquire state.shared (own_at state who) wants count) order is
       (acquire_empties wants count state.shared (own_at state who) (fallen_at state.shared (own_at state who).who)) calls;
   serving = λ state who is live order calls.

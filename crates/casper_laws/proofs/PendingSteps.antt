@@ -104,7 +104,7 @@ short_by_turns = record {
       let own = own_at state who in
       let joins = joined_short state.shared own (short who) (client_at state.shared own.who) in
       short_after state who (join state.shared own).shared (join state.shared own).own order is joins.who joins.short short;
-  acquiring = λ state who wants calls is live order short.
+  acquiring = λ state who wants calls any is live order short.
       emptied state who (acquire state.shared (own_at state who) wants calls) order is (acquire_empties wants calls state.shared (own_at state who) (fallen_at state.shared (own_at state who).who)) short;
   serving = λ state who is live order short.
       emptied state who (serve state.shared (own_at state who)) order is (serve_empties state.shared (own_at state who) (fallen_at state.shared (own_at state who).who)) short;

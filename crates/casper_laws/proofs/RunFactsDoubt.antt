@@ -211,7 +211,7 @@ doubt_by_turns : KeptByTurns (λ state. ⊤) IsKnown IsDoubtWritten
 doubt_by_turns = record {
   hit = λ state who act page word value is calls known written can. record { unfinished = written.unfinished; doubtful = written.doubtful };
   joining = λ state who is known written. doubt_left state _ _ known.orderly (join_leaves state who is known.orderly) written;
-  acquiring = λ state who wants calls is live known written. doubt_left state _ _ known.orderly (acquire_leaves state who is known.orderly live wants calls) written;
+  acquiring = λ state who wants calls any is live known written. doubt_left state _ _ known.orderly (acquire_leaves state who is known.orderly live wants calls) written;
   serving = λ state who is live known written. doubt_left state _ _ known.orderly (serve_leaves state who is known.orderly live) written;
   stabilising = λ state who is live known written. doubt_left state _ _ known.orderly (stabilise_leaves state who is known.orderly live) written;
   departing = λ state who is live known written. doubt_left state _ _ known.orderly (depart_leaves state who is known.orderly live) written;

@@ -93,7 +93,7 @@ up_by_turns : KeptByTurns (λ state. ⊤) IsNotedWell (λ state. NotedAreUp stat
 up_by_turns = record {
   hit = λ state who act page word value is calls well up can. up;
   joining = λ state who is well up. join_up state.shared (own_at state who) (below_places state who well.known.history.order is) up;
-  acquiring = λ state who wants calls is live well up.
+  acquiring = λ state who wants calls any is live well up.
       let own = own_at state who in
       up_still state.shared (acquire state.shared own wants calls).shared (notes_acquired wants calls state.shared own (fallen_at state.shared own.who))
       (falls_acquired wants calls state.shared own (stands_at state who well.known.history.order live)) up;

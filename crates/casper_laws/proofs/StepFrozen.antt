@@ -59,7 +59,7 @@ orderly_by_turns = record {
       record { frozen = orderly.frozen; written = write_outs_left state state.shared _ state.unfinished (stays_itself state.shared orderly.frozen) orderly.written };
   joining = λ state who is sound orderly.
       orderly_after state _ _ orderly (join_stays state.shared (own_at state who) (below_places state who sound.order is) orderly.frozen);
-  acquiring = λ state who wants calls is live sound orderly.
+  acquiring = λ state who wants calls any is live sound orderly.
       let own = own_at state who in
       orderly_after state (acquire state.shared own wants calls).shared (acquire state.shared own wants calls).own orderly
       (acquire_stays wants calls state.shared own (named state who sound.order is) (stands_at state who sound.order live) (recording_if_up state who sound)

@@ -183,7 +183,7 @@ stored_by_turns = record {
   hit = λ state who act page word value is calls known stored can.
       record { shape = stored.shape; image = stored.image ∙ same_due state (with_own state (with_call (own_at state who) act page word value)).owns state.unfinished; unfinished = stored.unfinished; doubtful = stored.doubtful };
   joining = λ state who is known stored. both_left state _ _ known (join_leaves state who is known) stored;
-  acquiring = λ state who wants calls is live known stored. both_left state _ _ known (acquire_leaves state who is known live wants calls) stored;
+  acquiring = λ state who wants calls any is live known stored. both_left state _ _ known (acquire_leaves state who is known live wants calls) stored;
   serving = λ state who is live known stored. both_left state _ _ known (serve_leaves state who is known live) stored;
   stabilising = λ state who is live known stored. both_left state _ _ known (stabilise_leaves state who is known live) stored;
   departing = λ state who is live known stored. both_left state _ _ known (depart_leaves state who is known live) stored;

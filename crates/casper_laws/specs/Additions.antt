@@ -99,6 +99,7 @@ items_added state (event.Join who) given = []
 items_added state (event.Read who page word) given = as_items (call_entries state who (record { page = page; right = may.Read }) given)
 items_added state (event.Write who page word value) given = as_items (call_entries state who (record { page = page; right = may.Write }) given)
 items_added state (event.Acquire who wants) given = as_items (acquire_entries state who wants given)
+items_added state (event.Hold who wants) given = as_items (acquire_entries state who wants given)
 items_added state (event.Serve who) given = as_items (turn_entries state who given)
 items_added state (event.Stabilise who) given = as_items (turn_entries state who given)
 items_added state (event.WriteOut lead) given = []

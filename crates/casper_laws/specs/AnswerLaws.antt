@@ -145,6 +145,7 @@ may_answer_present (event.Join who) given = may_answer_join given
 may_answer_present (event.Read who page word) given = may_answer_read given
 may_answer_present (event.Write who page word value) given = may_answer_write given
 may_answer_present (event.Acquire who wants) given = may_answer_acquire given
+may_answer_present (event.Hold who wants) given = may_answer_acquire given
 may_answer_present (event.Serve who) given = may_answer_serve given
 may_answer_present (event.Stabilise who) given = may_answer_stabilise given
 may_answer_present (event.WriteOut lead) given = may_answer_write_out given
@@ -160,6 +161,7 @@ client_of (event.Join who) = None
 client_of (event.Read who page word) = Some who
 client_of (event.Write who page word value) = Some who
 client_of (event.Acquire who wants) = Some who
+client_of (event.Hold who wants) = Some who
 client_of (event.Serve who) = Some who
 client_of (event.Stabilise who) = Some who
 client_of (event.WriteOut lead) = None
@@ -189,6 +191,7 @@ abbrev pub names_pages : Event → Bool
 names_pages (event.Read who page word) = true
 names_pages (event.Write who page word value) = true
 names_pages (event.Acquire who wants) = true
+names_pages (event.Hold who wants) = true
 names_pages other = false
 
 -- all answers of each event: those, where it is of a client that has to be live, that this client is absent, and where it
@@ -207,6 +210,7 @@ abbrev pub is_past : State → Event → Bool
 is_past state (event.Read who page word) = not (is_in_range page word state)
 is_past state (event.Write who page word value) = not (is_in_range page word state)
 is_past state (event.Acquire who wants) = not (are_in_range wants state)
+is_past state (event.Hold who wants) = not (are_in_range wants state)
 is_past state other = false
 
 -- whether an event is a join of a client that is live

@@ -29,6 +29,7 @@ is_turn_of who (event.Join one) = one == who
 is_turn_of who (event.Read one page word) = one == who
 is_turn_of who (event.Write one page word value) = one == who
 is_turn_of who (event.Acquire one wants) = one == who
+is_turn_of who (event.Hold one wants) = one == who
 is_turn_of who (event.Serve one) = one == who
 is_turn_of who (event.Stabilise one) = one == who
 is_turn_of who (event.WriteOut lead) = false

@@ -21,6 +21,7 @@ may_take_memory (event.Join who) = true
 may_take_memory (event.Read who page word) = true
 may_take_memory (event.Write who page word value) = true
 may_take_memory (event.Acquire who wants) = true
+may_take_memory (event.Hold who wants) = true
 may_take_memory (event.Serve who) = true
 may_take_memory (event.Stabilise who) = true
 may_take_memory (event.WriteOut lead) = false

@@ -74,6 +74,7 @@ abbrev pub drops_pending : State → Event → Answer → ℕ → Bool
 drops_pending state (event.Read who page word) given client = (who == client) && is_told state who given
 drops_pending state (event.Write who page word value) given client = (who == client) && is_told state who given
 drops_pending state (event.Acquire who wants) given client = (who == client) && is_told state who given
+drops_pending state (event.Hold who wants) given client = (who == client) && is_told state who given
 drops_pending state (event.Serve who) given client = (who == client) && is_told state who given
 drops_pending state (event.Stabilise who) given client = (who == client) && is_told state who given
 drops_pending state (event.Depart who) given client = (who == client) && is_told state who given

@@ -66,7 +66,8 @@ rooms_have_the_free_frames held apart below =
     )
 
 pub rooms_have_the_need : RoomsHaveTheNeed
-rooms_have_the_need held pages = omega arith
+rooms_have_the_need held [] = refl
+rooms_have_the_need held (page ∷ pages) = omega arith
 
 -- a number put into a list that has it in front, that begins above it, and that begins below it
 number_there : (first number : ℕ) (list : List ℕ) → first ≡ number → with_number (first ∷ list) number ≡ first ∷ list

@@ -59,6 +59,7 @@ exact_by state (event.Join who) after is order exact adds = subst IsExact (sym a
 exact_by state (event.Read who page word) after is order exact adds = exact_by_own state who after is order exact adds
 exact_by state (event.Write who page word value) after is order exact adds = exact_by_own state who after is order exact adds
 exact_by state (event.Acquire who wants) after is order exact adds = exact_by_own state who after is order exact adds
+exact_by state (event.Hold who wants) after is order exact adds = exact_by_own state who after is order exact adds
 exact_by state (event.Serve who) after is order exact adds = exact_by_own state who after is order exact adds
 exact_by state (event.Stabilise who) after is order exact adds = exact_by_own state who after is order exact adds
 exact_by state (event.WriteOut lead) after is order exact adds = subst IsExact (sym adds) exact

@@ -26,7 +26,7 @@ use Rattle.casper_model.specs.View.{value_seen}
 use Rattle.casper_model.specs.Turn.{Turn, of_live, within, is_in_range, are_in_range}
 use Rattle.casper_model.specs.CallStep.{hit_turn, hit_behind, call_by, acquire_step, unless_load_failed, is_granted}
 use Rattle.casper_model.specs.WriteOutStep.{job_of, busy_lead, written_out, write_out_step, finish_turn, finish_step, settle_turn, settle_step}
-use Rattle.casper_model.specs.Step.{step, read_turn, write_turn, acquire_turn, serve_turn, stabilise_turn, depart_turn, vanish_turn, lose_turn}
+use Rattle.casper_model.specs.Step.{step, read_turn, write_turn, acquire_turn, hold_turn, heap_line_calls, serve_turn, stabilise_turn, depart_turn, vanish_turn, lose_turn}
 use Rattle.casper_model.specs.Run.{Happening, state_after}
 use Rattle.casper_model.specs.Rights.{InOrder, AllNameClients, TurnStands}
 use Rattle.casper_model.specs.FallLaw.{EachFallenIsMarked, EachStepKeepsTheFallenMarked, EveryRunMarksTheFallen}
@@ -177,6 +177,10 @@ step_marked state (event.Acquire who wants) outside is order marked =
     let turn = acquire_turn who wants outside in
     live_marked who state (within (are_in_range wants) turn) marked
     (λ live. within_marked (are_in_range wants) state turn marked (marked_acquire state who wants 1 outside order live marked))
+step_marked state (event.Hold who wants) outside is order marked =
+    let turn = hold_turn who wants outside in
+    live_marked who state (within (are_in_range wants) turn) marked
+    (λ live. within_marked (are_in_range wants) state turn marked (marked_acquire state who wants heap_line_calls outside order live marked))
 step_marked state (event.Serve who) outside is order marked =
     let own = own_at state who in
     live_marked who state (serve_turn who) marked

@@ -112,7 +112,7 @@ places_opened shared own =
     ∙ places_changed own.who (λ client. record client { kept = None }) shared
 
 -- what a client keeps of a page is the page as it was, or for reading
-kept_or_lowered : (wholly reading : Bool) (want left : Want) → cond wholly None (Some (cond reading (lowered want) want)) ≡ Some left
+pub kept_or_lowered : (wholly reading : Bool) (want left : Want) → cond wholly None (Some (cond reading (lowered want) want)) ≡ Some left
     → (left ≡ want) ⊎ (left ≡ lowered want)
 kept_or_lowered true reading want left kept = absurd (true≢false (sym (ap is_some kept)))
 kept_or_lowered false true want left kept = inr (ap (λ one. unwrap_or one want) (sym kept))

@@ -32,7 +32,7 @@ use Rattle.casper_model.specs.View.{value_seen}
 use Rattle.casper_model.specs.Turn.{Turn, of_live, within, is_in_range, are_in_range}
 use Rattle.casper_model.specs.CallStep.{hit_turn, hit_behind, call_by, call_step, acquire_step, unless_load_failed, is_granted}
 use Rattle.casper_model.specs.WriteOutStep.{job_of, busy_lead, written_out, write_out_step, finish_turn, finish_step, settle_turn, settle_step}
-use Rattle.casper_model.specs.Step.{step, read_turn, write_turn, acquire_turn, serve_turn, stabilise_turn, depart_turn, vanish_turn, lose_turn}
+use Rattle.casper_model.specs.Step.{step, read_turn, write_turn, acquire_turn, hold_turn, heap_line_calls, serve_turn, stabilise_turn, depart_turn, vanish_turn, lose_turn}
 use Rattle.casper_model.specs.Run.{Happening, state_after}
 use Rattle.casper_model.specs.Rights.{Agrees, AgreesUnlessFallen, AllowTheSame, InOrder, AllNameClients}
 use Rattle.casper_model.specs.RoomLaw.{IsWithin, HasRoom, EachStepKeepsRoom, EveryRunKeepsRoom}
@@ -227,6 +227,11 @@ step_room state (event.Acquire who wants) outside is order room =
     live_room who state (within (are_in_range wants) turn) room
     (λ live.
     within_room (are_in_range wants) state turn room (room_acquire state who wants 1 outside (record { order = order; room = room }) is live).room)
+step_room state (event.Hold who wants) outside is order room =
+    let turn = hold_turn who wants outside in
+    live_room who state (within (are_in_range wants) turn) room
+    (λ live.
+    within_room (are_in_range wants) state turn room (room_acquire state who wants heap_line_calls outside (record { order = order; room = room }) is live).room)
 step_room state (event.Serve who) outside is order room =
     let own = own_at state who in
     live_room who state (serve_turn who) room

@@ -31,7 +31,7 @@ use Rattle.casper_model.specs.View.{value_seen}
 use Rattle.casper_model.specs.Turn.{Turn, guarded, of_live, within, is_in_range, are_in_range}
 use Rattle.casper_model.specs.CallStep.{hit_turn, hit_behind, call_by, acquire_step, unless_load_failed, is_granted}
 use Rattle.casper_model.specs.WriteOutStep.{job_of, busy_lead, written_out, write_out_step, finish_turn, finish_step, settle_turn, settle_step}
-use Rattle.casper_model.specs.Step.{step, read_turn, write_turn, acquire_turn, serve_turn, stabilise_turn, depart_turn, vanish_turn, lose_turn}
+use Rattle.casper_model.specs.Step.{step, read_turn, write_turn, acquire_turn, hold_turn, heap_line_calls, serve_turn, stabilise_turn, depart_turn, vanish_turn, lose_turn}
 use Rattle.casper_model.specs.Run.{Happening, state_after}
 use Rattle.casper_model.specs.Rights.{NamesClients, AllNameClients}
 use Rattle.casper_model.specs.LegalHistory.{IsGood, HasLegalHistory, HasHistory, EachStepKeepsHistory, EveryRunIsLegal}
@@ -176,6 +176,10 @@ step_legal state (event.Acquire who wants) outside is has =
     let turn = acquire_turn who wants outside in
     live_history who state (within (are_in_range wants) turn) has.history
     (λ live. within_history (are_in_range wants) state turn has.history (history_acquire state who wants 1 outside has is live).history)
+step_legal state (event.Hold who wants) outside is has =
+    let turn = hold_turn who wants outside in
+    live_history who state (within (are_in_range wants) turn) has.history
+    (λ live. within_history (are_in_range wants) state turn has.history (history_acquire state who wants heap_line_calls outside has is live).history)
 step_legal state (event.Serve who) outside is has =
     let own = own_at state who in
     live_history who state (serve_turn who) has.history
@@ -284,6 +288,9 @@ base_stays state (event.Write who page word value) outside =
 base_stays state (event.Acquire who wants) outside =
     base_live who state (within (are_in_range wants) (acquire_turn who wants outside))
     (base_within (are_in_range wants) state (acquire_turn who wants outside) (base_unless state _ _ refl))
+base_stays state (event.Hold who wants) outside =
+    base_live who state (within (are_in_range wants) (hold_turn who wants outside))
+    (base_within (are_in_range wants) state (hold_turn who wants outside) (base_unless state _ _ refl))
 base_stays state (event.Serve who) outside = base_live who state (serve_turn who) refl
 base_stays state (event.Stabilise who) outside = base_live who state (stabilise_turn who) refl
 base_stays state (event.WriteOut lead) outside = base_write_out state outside (job_of state lead)

@@ -27,7 +27,7 @@ use Rattle.casper_model.specs.Hits.{hit_read, hit_write}
 use Rattle.casper_model.specs.State.{State, Unfinished, own_at}
 use Rattle.casper_model.specs.View.{value_seen}
 use Rattle.casper_model.specs.Turn.{Turn, guarded, of_live, within, is_in_range, are_in_range}
-use Rattle.casper_model.specs.Step.{read_turn, write_turn, acquire_turn, serve_turn, stabilise_turn, depart_turn, vanish_turn, lose_turn}
+use Rattle.casper_model.specs.Step.{read_turn, write_turn, acquire_turn, hold_turn, heap_line_calls, serve_turn, stabilise_turn, depart_turn, vanish_turn, lose_turn}
 use Rattle.casper_model.specs.CallStep.{hit_turn, hit_behind, call_by, call_step, acquire_step, unless_load_failed, is_granted}
 use Rattle.casper_model.specs.WriteOutStep.{job_of, busy_lead, written_out, write_out_step, finish_turn, finish_step, settle_turn, settle_step}
 use Rattle.casper_model.specs.Growth.{AddsOwn, AddsMark, EachStepExtendsTheTrail}
@@ -163,6 +163,11 @@ step_adds state (event.Acquire who wants) outside =
     let turn = acquire_turn who wants outside in
     live_adds P who state (within (are_in_range wants) turn) AddsOwn.nothing
     (within_adds P (are_in_range wants) state turn AddsOwn.nothing (acquire_step_adds state who wants 1 outside))
+step_adds state (event.Hold who wants) outside =
+    let P : List Item → Type 0 = AddsOwn (own_at state who).who (own_at state who).pending state.shared.trail in
+    let turn = hold_turn who wants outside in
+    live_adds P who state (within (are_in_range wants) turn) AddsOwn.nothing
+    (within_adds P (are_in_range wants) state turn AddsOwn.nothing (acquire_step_adds state who wants heap_line_calls outside))
 step_adds state (event.Serve who) outside =
     live_adds (AddsOwn (own_at state who).who (own_at state who).pending state.shared.trail) who state (serve_turn who) AddsOwn.nothing
     (serve_adds state.shared (own_at state who))

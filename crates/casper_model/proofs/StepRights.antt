@@ -27,7 +27,7 @@ use Rattle.casper_model.specs.View.{value_seen}
 use Rattle.casper_model.specs.Turn.{Turn, guarded, of_live, within, is_in_range, are_in_range}
 use Rattle.casper_model.specs.CallStep.{hit_turn, hit_behind, call_by, call_step, acquire_step, unless_load_failed, is_granted}
 use Rattle.casper_model.specs.WriteOutStep.{job_of, busy_lead, written_out, write_out_step, finish_turn, finish_step, settle_turn, settle_step}
-use Rattle.casper_model.specs.Step.{read_turn, write_turn, acquire_turn, serve_turn, stabilise_turn, depart_turn, vanish_turn, lose_turn}
+use Rattle.casper_model.specs.Step.{read_turn, write_turn, acquire_turn, hold_turn, heap_line_calls, serve_turn, stabilise_turn, depart_turn, vanish_turn, lose_turn}
 use Rattle.casper_model.specs.Rights.{Agrees, AgreesUnlessFallen, InOrder, TurnStands, TurnKeeps, TurnSpares, Spares, EachStepKeepsTheRights}
 use Rattle.casper_model.proofs.GrantedRights.{first_allows_the_same}
 use Rattle.casper_model.proofs.OpeningRights.{exclusive_with_less}
@@ -268,6 +268,10 @@ step_rights state (event.Acquire who wants) outside client order =
     let turn = acquire_turn who wants outside in
     live_order who state (within (are_in_range wants) turn) order
     (λ live. within_order (are_in_range wants) state turn order (ordered_acquire state who wants 1 outside order client live))
+step_rights state (event.Hold who wants) outside client order =
+    let turn = hold_turn who wants outside in
+    live_order who state (within (are_in_range wants) turn) order
+    (λ live. within_order (are_in_range wants) state turn order (ordered_acquire state who wants heap_line_calls outside order client live))
 step_rights state (event.Serve who) outside client order =
     live_order who state (serve_turn who) order
     (λ live. ordered_turn state who (serve state.shared (own_at state who)) order client live (keeps_serve state.shared (own_at state who) (stands_at state who order live)))

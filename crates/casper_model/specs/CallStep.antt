@@ -20,8 +20,7 @@ abbrev pub unless_load_failed : State → Bool → Turn → Turn
 unless_load_failed state true turn = record { answer = answer.Disk; state = state }
 unless_load_failed state false turn = turn
 
--- a client acquires pages, with room for so many calls. A heap line acquires so, with room for 600 calls, and then
--- makes its calls as hits in the same step
+-- a client acquires pages, with room for so many calls
 abbrev pub acquire_step : State → ℕ → List Want → ℕ → Outside → Turn
 acquire_step state who wants calls outside =
     let own = own_at state who in

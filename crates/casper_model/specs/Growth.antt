@@ -52,6 +52,7 @@ StepAdds state (event.Join who) after = after ≡ state.shared.trail
 StepAdds state (event.Read who page word) after = AddsOwn (own_at state who).who (own_at state who).pending state.shared.trail after
 StepAdds state (event.Write who page word value) after = AddsOwn (own_at state who).who (own_at state who).pending state.shared.trail after
 StepAdds state (event.Acquire who wants) after = AddsOwn (own_at state who).who (own_at state who).pending state.shared.trail after
+StepAdds state (event.Hold who wants) after = AddsOwn (own_at state who).who (own_at state who).pending state.shared.trail after
 StepAdds state (event.Serve who) after = AddsOwn (own_at state who).who (own_at state who).pending state.shared.trail after
 StepAdds state (event.Stabilise who) after = AddsOwn (own_at state who).who (own_at state who).pending state.shared.trail after
 StepAdds state (event.WriteOut lead) after = after ≡ state.shared.trail

@@ -93,6 +93,7 @@ NamesClients (event.Join who) = IsClient who
 NamesClients (event.Read who page word) = IsClient who
 NamesClients (event.Write who page word value) = IsClient who
 NamesClients (event.Acquire who wants) = IsClient who
+NamesClients (event.Hold who wants) = IsClient who
 NamesClients (event.Serve who) = IsClient who
 NamesClients (event.Stabilise who) = IsClient who
 NamesClients (event.WriteOut lead) = IsClient lead

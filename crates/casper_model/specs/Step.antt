@@ -29,6 +29,13 @@ write_turn who page word value outside state =
 abbrev pub acquire_turn : ℕ → List Want → Outside → State → Turn
 acquire_turn who wants outside state = acquire_step state who wants 1 outside
 
+-- for how many calls a heap line acquires room: none makes more
+abbrev pub heap_line_calls : ℕ
+heap_line_calls = 600
+
+abbrev pub hold_turn : ℕ → List Want → Outside → State → Turn
+hold_turn who wants outside state = acquire_step state who wants heap_line_calls outside
+
 abbrev pub serve_turn : ℕ → State → Turn
 serve_turn who state = let turn = serve state.shared (own_at state who) in record { answer = of_served turn.reply; state = after_turn state turn }
 
@@ -51,6 +58,7 @@ step state (event.Join who) outside = join_turn who state
 step state (event.Read who page word) outside = of_live who state (within (is_in_range page word) (read_turn who page word outside))
 step state (event.Write who page word value) outside = of_live who state (within (is_in_range page word) (write_turn who page word value outside))
 step state (event.Acquire who wants) outside = of_live who state (within (are_in_range wants) (acquire_turn who wants outside))
+step state (event.Hold who wants) outside = of_live who state (within (are_in_range wants) (hold_turn who wants outside))
 step state (event.Serve who) outside = of_live who state (serve_turn who)
 step state (event.Stabilise who) outside = of_live who state (stabilise_turn who)
 step state (event.WriteOut lead) outside = write_out_step state outside (job_of state lead)

@@ -11,6 +11,9 @@ pub enum Event {
     Write(Who, Page, u32, u64),
     /// The client asks for one to four pages, with room for one call.
     Acquire(Who, Wants),
+    /// The client asks for the one to four pages of a heap line, with room for 600 calls. Once they are granted, the
+    /// line's reads and writes are hits.
+    Hold(Who, Wants),
     /// The client makes a turn in which it meets the asks of the others.
     Serve(Who),
     /// The client asks for its association to be made stable.

@@ -1,4 +1,4 @@
-use Rattle.std.specs.Prelude.{ℕ, List, ◌+◌, ◌-◌, ◌/◌, map, fold, length, slice_set}
+use Rattle.std.specs.Prelude.{ℕ, List, [], ◌∷◌, ◌+◌, ◌-◌, ◌/◌, map, fold, length, slice_set}
 use Rattle.casper_space.specs.Rising.{rising, with_numbers}
 
 -- a page and the words that it is to have
@@ -26,9 +26,10 @@ pages_of changes = map (λ change. change.page) changes
 abbrev pub blocks_of : List ℕ → List ℕ
 blocks_of pages = rising (map (λ page. page / 1024) pages)
 
--- how many frames a commit of these pages needs
+-- how many frames a commit of these pages needs. One of no pages needs none
 abbrev pub need_of : VaultRoom → List ℕ → ℕ
-need_of room pages = length pages + length (blocks_of pages) + room.extra
+need_of room [] = 0
+need_of room (page ∷ pages) = length (page ∷ pages) + length (blocks_of (page ∷ pages)) + room.extra
 
 abbrev pub free_of : VaultRoom → ℕ
 free_of room = room.frames - (length room.pages + length room.blocks + room.top)

@@ -116,7 +116,7 @@ good_by_turns = record {
     unfinished = unfinished_while_still state state.shared (with_own state (with_call (own_at state who) act page word value)).owns state.unfinished (still_itself state.shared) moment.unfinished;
   };
   joining = λ state who is known moment. moment_behind state who _ _ is moment (join_kept state.shared (own_at state who) moment.good.shared (moment.good.each who is));
-  acquiring = λ state who wants calls is live known moment.
+  acquiring = λ state who wants calls any is live known moment.
       moment_behind state who _ _ is moment
       (acquire_kept state.shared (own_at state who) moment.good.shared (moment.good.each who is) (live_own state who moment.good live) wants calls);
   serving = λ state who is live known moment.

@@ -12,3 +12,4 @@ pub mod Right
 pub mod StageLaws
 pub mod CommitsNothing
 pub mod TurnLaws
+pub mod NamedWants

@@ -1,4 +1,4 @@
-use Rattle.casper_answers.proofs.AcquireLaws.{every_in_doubt, every_frozen, every_pending, every_trail_full, every_disk, every_granted}
+use Rattle.casper_answers.proofs.AcquireLaws.{every_in_doubt, every_frozen, every_pending, every_trail_full, every_disk, every_granted, every_free, every_grant_free}
 use Rattle.casper_answers.proofs.laws.law_of_acquires.Goals as goal
 
 pub returns-clause-doubt : goal.returns-clause-doubt
@@ -18,3 +18,9 @@ returns-clause-disk c = every_disk
 
 pub returns-clause-granted : goal.returns-clause-granted
 returns-clause-granted c = every_granted
+
+pub returns-clause-free : goal.returns-clause-free
+returns-clause-free c = every_free
+
+pub returns-clause-only : goal.returns-clause-only
+returns-clause-only c = every_grant_free

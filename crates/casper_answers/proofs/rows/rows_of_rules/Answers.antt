@@ -1,4 +1,4 @@
-use Rattle.casper_answers.proofs.RuleRows.{stranger_after_a_finish, rollback_beside_a_gather, serve_in_doubt, loss_noted_then_full, loss_noted_then_worn, frozen_by_the_first_want, frozen_by_ones_own, in_doubt_before_frozen, pending_before_trail_full, trail_full_tells_entries, room_for_one_call, one_page_past_the_end, depart_of_a_fallen_client, worn_before_full, asks_are_the_blocked_wants, map_blocks_of_pages}
+use Rattle.casper_answers.proofs.RuleRows.{stranger_after_a_finish, rollback_beside_a_gather, serve_in_doubt, loss_noted_then_full, loss_noted_then_worn, frozen_by_the_first_want, frozen_by_ones_own, in_doubt_before_frozen, pending_before_trail_full, trail_full_tells_entries, room_for_one_call, one_page_past_the_end, depart_of_a_fallen_client, worn_before_full, asks_are_the_blocked_wants, map_blocks_of_pages, heap_line_needs_its_room, no_pages_need_no_frame}
 use Rattle.casper_answers.proofs.rows.rows_of_rules.Goals as goal
 
 pub returns-clause-stranger_after_a_finish : goal.returns-clause-stranger_after_a_finish
@@ -48,3 +48,9 @@ returns-clause-asks_are_the_blocked_wants c = asks_are_the_blocked_wants
 
 pub returns-clause-map_blocks_of_pages : goal.returns-clause-map_blocks_of_pages
 returns-clause-map_blocks_of_pages c = map_blocks_of_pages
+
+pub returns-clause-heap_line_room : goal.returns-clause-heap_line_room
+returns-clause-heap_line_room c = heap_line_needs_its_room
+
+pub returns-clause-no_pages : goal.returns-clause-no_pages
+returns-clause-no_pages c = no_pages_need_no_frame

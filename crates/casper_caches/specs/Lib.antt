@@ -1,0 +1,3 @@
+pub mod HeldPages
+pub mod CacheLaws
+pub mod LineLaws
