@@ -1,4 +1,4 @@
-use Rattle.std.proofs.Common.{zero, suc, ◌≡◌, ◌≢◌, ℕ, ◌+◌, ◌-◌, ◌*◌, ◌^◌, ◌<◌, ◌≤◌, Bool, true, false, List, [], ◌∷◌, length, take, get_or, Option, Some, None, refl, sym, ap, ◌∙◌, inl, inr, subst, arith, rules}
+use Rattle.std.proofs.Common.{zero, suc, ◌≡◌, ℕ, ◌+◌, ◌-◌, ◌*◌, ◌^◌, ◌<◌, ◌≤◌, true, List, [], ◌∷◌, length, take, get_or, Some, None, refl, sym, ap, ◌∙◌, inl, inr, subst, arith}
 use Rattle.std.specs.Char.{is_ascii_digit, digit_value}
 use Rattle.std.specs.Str.{all_ascii_digits}
 use Rattle.std.specs.Str.Parse.{digits_value}
@@ -57,9 +57,9 @@ pub no_number : (word : List ℕ) (count value : ℕ) → count < length word �
     → (is_ascii_digit (get_or word count 0) ≡ true → 2 ^ 64 ≤ value * 10 + (get_or word count 0 - 48)) → number_of word ≡ None
 no_number word count value within is large =
     number_below-none (2 ^ 64) word (λ numeral below.
-      let digit = all_digits-at word count within (numeral_parts word numeral).1 in
-      let front : digits_value 10 (take (count + 1) word) ≤ digits_value 10 word = digits_value-take-le 10 word (count + 1) (omega arith) in
-      absurd (omega (arith, large digit, value_more word count value within digit is, front, below)))
+    let digit = all_digits-at word count within (numeral_parts word numeral).1 in
+    let front : digits_value 10 (take (count + 1) word) ≤ digits_value 10 word = digits_value-take-le 10 word (count + 1) (omega arith) in
+    absurd (omega (arith, large digit, value_more word count value within digit is, front, below)))
 
 -- all bytes were read
 pub whole_number : (word : List ℕ) (value : ℕ) → begins_as_number word ≡ true → HasRead word (length word) value → number_of word ≡ Some value
