@@ -9,6 +9,7 @@ mod laws;
 mod lines;
 mod outlet;
 mod replay;
+mod room;
 mod schedule;
 mod taking;
 mod top;

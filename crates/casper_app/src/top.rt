@@ -11,11 +11,12 @@ use crate::ending::write_ending;
 use crate::lines::take_lines;
 use crate::outlet::Outlet;
 use crate::replay::Replay;
+use crate::room::Room;
 use crate::{Cause, End};
 use casper_audit::{AuditFault, Verdict, audit};
 use casper_core::Core;
 use casper_disk::{MemVault, Vault};
-use casper_io::{Line, Sink, Source};
+use casper_io::{Sink, Source};
 use casper_space::Answers;
 use casper_text::Word;
 use casper_trail::{Mark, Trail};
@@ -219,8 +220,8 @@ fn replay<V: Vault, S: Source, K: Sink>(
         ⊎ (K.faults sink.new ≡ K.faults sink.old) }
 {
     let _mark: Option<Mark> = None;
-    let mut line = match Line::new(alloc) {
-        Ok(line) => line,
+    let mut room = match Room::new(alloc) {
+        Ok(room) => room,
         Err(Memory) => {
             let (hub, vault) = core.into_parts();
             let ended = end_unread(alloc, Cause::Memory, hub.into_trail(), sink);
@@ -228,7 +229,7 @@ fn replay<V: Vault, S: Source, K: Sink>(
         }
     };
     let mut replay = Replay::new(alloc, core, outlet);
-    let said = match take_lines(alloc, &mut replay, &mut line, source, sink) {
+    let said = match take_lines(&mut replay, &mut room, source, sink) {
         Ok(lines) => End::Done(replay.summary(lines)),
         Err(cause) => End::Stopped(cause),
     };
