@@ -17,5 +17,5 @@ mod top;
 pub use cause::Cause;
 pub use command::{Command, Opening};
 pub use end::End;
-pub use laws::{schedule_laws, session_laws};
+pub use laws::{chain_laws, schedule_laws, session_laws};
 pub use top::{Ended, run};

@@ -1,7 +1,9 @@
 ghost use Rattle.std.specs.Prelude.{◌≡◌, ◌≤◌, [], ◌⊎◌, IsTrue, IfSome, IfOk};
 ghost use Rattle.casper_core.specs.Represents.{Represents};
+ghost use Rattle.casper_core.specs.Shaped.{RepresentsButWords};
 ghost use Rattle.casper_model.specs.State.{State};
 ghost use Rattle.casper_words.specs.Count.{FaultCountRose};
+ghost use Rattle.casper_app.specs.Comes.{ComesFrom, ComesInShape};
 ghost use Rattle.casper_app.specs.Command.{IsCommand, IsOpening};
 ghost use Rattle.casper_app.specs.Status.{status_of_end};
 ghost use Rattle.casper_app.specs.Ending.{IsRun, IsLegalRun, RunsCommand, IsLegalCommand, RunsAudit, end_of_audit, RunsReplay, RunsInMemory, IsLegalInMemory, EndsWith, IsDone, start_of};
@@ -204,7 +206,11 @@ fn replay<V: Vault, S: Source, K: Sink>(
 ) -> (Ended, V)
     requires { core.calls ≡ 0 }
     ensures run { IsTrue V.tells → (start : State) → Represents start core
-        → RunsReplay start outlet (V.faults core.vault) (V.faults result.1)
+        → RunsReplay (ComesFrom start) outlet (V.faults core.vault) (V.faults result.1)
+        (S.left source.old) (S.left source.new) (K.taken sink.old)
+        (K.taken sink.new) result.0.answers.items result.0.trail.items result.0.last }
+    ensures shape { (start : State) → RepresentsButWords start core
+        → RunsReplay (ComesInShape start) outlet (V.faults core.vault) (V.faults result.1)
         (S.left source.old) (S.left source.new) (K.taken sink.old)
         (K.taken sink.new) result.0.answers.items result.0.trail.items result.0.last }
     ensures end { IsDone result.0.last → IfSome (S.left source.new) (λ left. left ≡ []) }
