@@ -75,6 +75,7 @@ pub record IsTotal (limits : Limits) (vault : VaultState) (sessions : List Playe
   pub commits : total.commits ≡ commit_count (all_items limits vault sessions)
   pub rollbacks : total.rollbacks ≡ rollback_count (all_items limits vault sessions)
 
+-- what the last lines of such sessions tell, added up, is what all their lines, answers and trails come to
 abbrev pub TotalsAreOfAllLines : Type 0
 TotalsAreOfAllLines =
     (limits : Limits) (vault : VaultState) (version : ℕ) (sessions : List Played) → ArePlayed limits vault sessions
