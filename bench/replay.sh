@@ -70,13 +70,33 @@ grants() {
 # The first run builds the program, if need be.
 "$top/casper" replay mem:64 </dev/null >/dev/null
 
+# A plain array program as a yardstick, where there is a C compiler.
+yardstick=
+if command -v cc >/dev/null; then
+    yardstick=$work/array
+    cc -O2 -o "$yardstick" "$top/bench/array.c"
+fi
+
+# The user time of the yardstick for a schedule that it can answer, and a stop where it writes other answers than the program.
+array_seconds() {
+    case $yardstick:$1 in
+    :* | *:crowd | *:grants) echo none ;;
+    *)
+        "$clock" -f '%U' -o "$work/array_cost" "$yardstick" "$2" <"$work/$1" >"$work/array_answers"
+        cmp -s "$work/answers" "$work/array_answers" || { echo "bench/array.c writes other answers to $1" >&2; exit 1; }
+        cat "$work/array_cost"
+        ;;
+    esac
+}
+
 while read -r schedule pages; do
     "$schedule" >"$work/$schedule"
-    "$clock" -f '%e %M' -o "$work/cost" "$top/crates/casper/out/casper" replay "mem:$pages" <"$work/$schedule" >"$work/answers"
-    read -r seconds peak <"$work/cost"
-    awk -v name="$schedule" -v pages="$pages" -v lines="$lines" -v seconds="$seconds" -v peak="$peak" 'END {
+    "$clock" -f '%e %U %M' -o "$work/cost" "$top/crates/casper/out/casper" replay "mem:$pages" <"$work/$schedule" >"$work/answers"
+    read -r seconds user peak <"$work/cost"
+    array=$(array_seconds "$schedule" "$pages")
+    awk -v name="$schedule" -v pages="$pages" -v lines="$lines" -v seconds="$seconds" -v user="$user" -v array="$array" -v peak="$peak" 'END {
         rate = seconds > 0 ? sprintf("%.0f", lines / seconds) : "unknown"
-        printf "%s: pages=%d lines=%d seconds=%s lines_per_second=%s peak_kb=%d (%s)\n", name, pages, lines, seconds, rate, peak, $0
+        printf "%s: pages=%d lines=%d seconds=%s lines_per_second=%s user=%s array_user=%s peak_kb=%d (%s)\n", name, pages, lines, seconds, rate, user, array, peak, $0
     }' "$work/answers"
     rm "$work/$schedule" "$work/answers"
 done <<'SCHEDULES'

@@ -8,12 +8,17 @@ use Rattle.casper_model.specs.declared.event.Event.TheVariants as event
 use Rattle.casper_model.specs.Shared.{fallen_at, is_live}
 use Rattle.casper_model.specs.State.{State, start}
 use Rattle.casper_model.specs.Step.{step}
-use Rattle.casper_model.specs.Run.{answers_of}
+use Rattle.casper_model.specs.Run.{answers_of, state_after}
 use Rattle.casper_model.specs.Turn.{Turn}
-use Rattle.casper_laws.specs.OwnLists.{completed_calls, drops_pending, is_rolled_back, all_completed, never_drops}
+use Rattle.casper_laws.specs.OwnLists.{own_list_of, completed_calls, drops_pending, calls_left, is_rolled_back, all_completed, never_drops, ArePendingCalls}
 use Rattle.casper_laws.proofs.CallsInOrder.{every_run_in_order}
+use Rattle.casper_laws.proofs.CompletedCalls.{step_completes}
+use Rattle.casper_laws.proofs.KeptCalls.{step_calls, every_run_calls}
+use Rattle.casper_model.proofs.RunRights.{start_in_order, blank_at}
+use Rattle.casper_model.proofs.StepRights.{step_rights}
+use Rattle.casper_model.specs.Rights.{InOrder, AllNameClients}
 use Rattle.casper_app.specs.Lines.{events_in}
-use Rattle.casper_app.specs.Machine.{calls_answered, may_drop, none_dropped, SessionsKeepCalls}
+use Rattle.casper_app.specs.Machine.{calls_answered, calls_kept, may_drop, none_dropped, SessionsKeepCalls, SessionsKeepCallsButDropped}
 use Rattle.casper_core.specs.Acting.{outside_of}
 use Rattle.casper_core.specs.Stepping.{happenings_of}
 use Rattle.casper_app.proofs.SessionLemmas.{lines_name_clients}
@@ -82,3 +87,27 @@ sessions_keep_calls vault pages limit capacity lines given who session none =
     every_run_in_order vault pages limit capacity (happenings_of (events_in lines) given) (lines_name_clients lines given) who
     (never_by begun (events_in lines) given who session.answers none)
     ∙ completed_by begun (events_in lines) given who session.answers
+
+-- each step leaves a client what it leaves, and adds what its answer completes
+kept_from : (state : State) (events : List Event) (given : List Answer) (who : ℕ) → AllNameClients (happenings_of events given) → InOrder state
+    → ArePendingCalls state → given ≡ answers_of state (happenings_of events given)
+    → own_list_of (state_after state (happenings_of events given)) who ≡ calls_kept state events given who (own_list_of state who)
+kept_from state [] [] who named order pending is = refl
+kept_from state (asked ∷ events) [] who named order pending is = refl
+kept_from state [] (one ∷ given) who named order pending is = refl
+kept_from state (asked ∷ events) (one ∷ given) who named order pending is =
+    let turn : Turn = step state asked (outside_of one) in
+    let heads = first_given one turn.answer given (answers_of turn.state (happenings_of events given)) is in
+    let made : own_list_of turn.state who ≡ calls_left state asked one who ++ completed_calls asked one who =
+    step_completes state asked (outside_of one) named.0 order pending who
+    ∙ ap (λ (a : Answer). calls_left state asked a who ++ completed_calls asked a who) (sym heads.0) in
+    kept_from turn.state events given who named.1 (step_rights state asked (outside_of one) named.0 order)
+    (step_calls state asked (outside_of one) named.0 order pending) heads.1
+    ∙ ap (calls_kept turn.state events given who) made
+
+pub sessions_keep_but_dropped : SessionsKeepCallsButDropped
+sessions_keep_but_dropped vault pages limit capacity lines given who session =
+    let begun : State = start vault pages limit capacity in
+    kept_from begun (events_in lines) given who (lines_name_clients lines given) (start_in_order vault pages limit capacity)
+    (every_run_calls vault pages limit capacity [] tt) session.answers
+    ∙ ap (calls_kept begun (events_in lines) given who) (blank_at vault pages limit capacity who).pending

@@ -16,6 +16,8 @@ use Rattle.casper_core.specs.Represents.{Represents}
 use Rattle.casper_core.specs.Stepping.{IsRun, Runs, completes, completed_in, happening_of, happenings_of}
 use Rattle.casper_core.proofs.ReplayRuns.{run_nothing, run_more, run_still, rose_more, count_more}
 use Rattle.casper_core.proofs.ShapedRuns.{made_nothing, made_more, made_still}
+use Rattle.casper_app.specs.declared.end.End.TheVariants as end
+use Rattle.casper_app.specs.Comes.{TellsInShape}
 use Rattle.casper_app.specs.Carrying.{MakesStep, MakesNone, Carries, summary_in}
 use Rattle.casper_app.specs.Lines.{event_of_line, events_in}
 use Rattle.casper_app.specs.Session.{IsSession, state_behind, trail_behind, summary_of}
@@ -177,6 +179,15 @@ summary_carried tells faults lines given first last start count carries told sta
     ap (λ (k : ℕ). summed k last.hub.trail last.told.version) calls
     ∙ ap (λ (t : List Item). summed (completed_in (events_in lines) given) t last.told.version) trail
     ∙ ap (summed (completed_in (events_in lines) given) (trail_behind start (events_in lines) given)) version
+
+-- over every vault it tells how many lines there were, and of the answers and the trail
+pub shape_carried : {V : Type 0} (tells : Bool) (faults : V → ℕ) (lines : List (List ℕ)) (given : List Answer) (first last : CoreView V) (count : ℕ)
+    → Carries tells faults (events_in lines) given first last → first.calls ≡ 0 → length lines ≤ 1048576 → count ≡ length lines
+    → TellsInShape (end.Done (summary_in count last)) (length lines) (events_in lines) given last.hub.trail
+shape_carried tells faults lines given first last count carries none few all =
+    let calls : last.calls ≡ completed_in (events_in lines) given = calls_counted lines given first.calls last.calls carries.each few none carries.calls in
+    let summed : ℕ → ℕ → Summary = λ n k. record { lines = n; calls = k; commits = commit_count last.hub.trail; rollbacks = rollback_count last.hub.trail; version = last.told.version } in
+    ap (λ (n : ℕ). summed n last.calls) all ∙ ap (summed (length lines)) calls
 
 -- a step of a core, by the cores that were there before and after it
 pub step_kept : {V : Type 0} (tells : Bool) (faults : V → ℕ) (asked : Event) (given : Answer) (before middle after last : CoreView V) → middle ≡ before → last ≡ after

@@ -1,5 +1,6 @@
 pub mod CallLemmas
 pub mod CarryLemmas
+pub mod ChainLemmas
 pub mod GrammarLemmas
 pub mod LineLawLemmas
 pub mod ReadingLemmas

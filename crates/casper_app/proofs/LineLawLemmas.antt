@@ -24,7 +24,7 @@ use Rattle.casper_app.specs.declared.command.Command.TheVariants as command
 use Rattle.casper_app.specs.Command.{audit_of, command_of, is_command, pages_from, pages_in, replay_of, replay_of_pages, store_of}
 use Rattle.casper_app.specs.Grammar.{words_of_event, IsEvent}
 use Rattle.casper_app.specs.Schedule.{client_of, event_of, is_comment, is_unbuilt, is_unbuilt_verb, unbuilt_verbs, parsed_line, parsed_words, refused_as}
-use Rattle.casper_app.specs.LineLaws.{BeginsWithHash, IsPlain, IsSkipped, AsksFor, IsUnbuilt, LinesAreSorted, words_of_replay, ReplaysHaveOneText}
+use Rattle.casper_app.specs.LineLaws.{BeginsWithHash, IsPlain, IsSkipped, AsksFor, IsUnbuilt, LinesAreSorted, words_of_replay, ReplaysHaveOneText, AuditsHaveOneText}
 use Rattle.casper_app.proofs.GrammarLemmas.{client_read_back, client_text, events_are_read_back, events_have_one_text}
 
 -- what a line is, by what it is said to be
@@ -262,3 +262,49 @@ replays_have_one_text list pages = (
   replay_text list pages,
   λ is. ap command_of is.2 ∙ memory_read_back pages is.0 is.1,
 )
+
+-- no store is an audit
+no_audit_of_store : (store : List ℕ) → store_of store ≡ Ok command.Audit → ⊥
+no_audit_of_store store gives = by_front (starts_with nat_eq store (codes "mem:")) gives
+  where
+    by_range : (number : ℕ) (test : Bool) → cond test (Ok (replay_of_pages number)) (Err cause.Usage) ≡ Ok command.Audit → ⊥
+    by_range number true gives = cc
+    by_range number false gives = cc
+
+    by_number : (found : Option ℕ) → option_map_or pages_from found (Err cause.Usage) ≡ Ok command.Audit → ⊥
+    by_number None gives = cc
+    by_number (Some number) gives = by_range number (nat_le 1 number && nat_le number 16384) gives
+
+    by_front : (test : Bool) → cond test (pages_in (drop 4 store)) (Err (cause.Unbuilt 0)) ≡ Ok command.Audit → ⊥
+    by_front true gives = by_number (number_of (drop 4 store)) gives
+    by_front false gives = cc
+
+audit_text : (list : List (List ℕ)) → command_of list ≡ Ok command.Audit → list ≡ codes "audit" ∷ []
+audit_text [] gives = cc
+audit_text (first ∷ rest) gives = by_replay (bytes_eq first (codes "replay")) gives
+  where
+    by_rest : (list : List (List ℕ)) → replay_of list ≡ Ok command.Audit → ⊥
+    by_rest [] gives = cc
+    by_rest (store ∷ []) gives = no_audit_of_store store gives
+    by_rest (store ∷ next ∷ more) gives = cc
+
+    by_kind : (test : Bool) → cond test (Err (cause.Unbuilt 0)) (Err cause.Usage) ≡ Ok command.Audit → ⊥
+    by_kind true gives = cc
+    by_kind false gives = cc
+
+    nothing_more : (list : List (List ℕ)) → audit_of list ≡ Ok command.Audit → list ≡ []
+    nothing_more [] gives = refl
+    nothing_more (one ∷ more) gives = cc
+
+    by_audit : (test : Bool) → (test ≡ true → first ≡ codes "audit") → cond test (audit_of rest) (cond (is_command first) (Err (cause.Unbuilt 0)) (Err cause.Usage)) ≡ Ok command.Audit
+        → first ∷ rest ≡ codes "audit" ∷ []
+    by_audit true same gives = ap (λ (c : List ℕ). c ∷ rest) (same refl) ∙ ap (λ (r : List (List ℕ)). codes "audit" ∷ r) (nothing_more rest gives)
+    by_audit false same gives = absurd (by_kind (is_command first) gives)
+
+    by_replay : (test : Bool) → cond test (replay_of rest) (cond (bytes_eq first (codes "audit")) (audit_of rest) (cond (is_command first) (Err (cause.Unbuilt 0)) (Err cause.Usage))) ≡ Ok command.Audit
+        → first ∷ rest ≡ codes "audit" ∷ []
+    by_replay true gives = absurd (by_rest rest gives)
+    by_replay false gives = by_audit (bytes_eq first (codes "audit")) (bytes_eq-Decides first (codes "audit")).0 gives
+
+pub audits_have_one_text : AuditsHaveOneText
+audits_have_one_text list = (audit_text list, λ is. ap command_of is)

@@ -14,12 +14,15 @@ use Rattle.casper_io.specs.declared.fault.IoFault.TheVariants as fault
 use Rattle.casper_io.specs.declared.lines.Next.TheVariants as next
 use Rattle.casper_trail.specs.declared.item.Item.{Item}
 use Rattle.casper_trail.specs.Legal.{IsLegal}
+use Rattle.casper_model.specs.declared.event.Event.{Event}
 use Rattle.casper_model.specs.State.{State, zero_vault}
 use Rattle.casper_model.specs.WholeHistory.{whole_of}
 use Rattle.casper_core.specs.Represents.{Represents}
+use Rattle.casper_core.specs.Shaped.{RepresentsButWords, IsRunMade}
 use Rattle.casper_core.specs.Stepping.{RoseBy, failures_in}
 use Rattle.casper_space.specs.declared.answer.Answer.{Answer}
 use Rattle.casper_report.specs.Texts.{answer_lines}
+use Rattle.casper_report.specs.declared.summary.Summary.{Summary}
 use Rattle.casper_app.specs.declared.cause.Cause.{Cause}
 use Rattle.casper_app.specs.declared.cause.Cause.TheVariants as cause
 use Rattle.casper_app.specs.declared.command.Opening.{Opening}
@@ -29,14 +32,15 @@ use Rattle.casper_app.specs.declared.outlet.Outlet.{Outlet}
 use Rattle.casper_app.specs.declared.outlet.Outlet.TheVariants as outlet
 use Rattle.casper_app.specs.declared.replay.Replay.{Replay}
 use Rattle.casper_app.specs.Carrying.{summary_in}
+use Rattle.casper_app.specs.Comes.{TellsOf, TellsInShape, ComesFrom, ComesInShape}
 use Rattle.casper_app.specs.Lines.{events_in}
 use Rattle.casper_app.specs.Outlet.{keeps, writes, kept_of, written_of}
 use Rattle.casper_app.specs.Session.{IsSession, state_behind, trail_behind, summary_of}
-use Rattle.casper_app.specs.Replay.{EndsFor, IsTold, WritesFor, WritesAnswers, TellsOf, cause_of}
+use Rattle.casper_app.specs.Replay.{EndsFor, IsTold, WritesFor, WritesAnswers, cause_of}
 use Rattle.casper_app.specs.Reading.{IsReading, stop_of}
 use Rattle.casper_app.specs.Ending.{EndsWith, IsDone, RunsReplay, RunsInMemory, RunsRefusal, IsLegalInMemory, start_of, RunsAudit, end_of_audit}
 use Rattle.casper_app.specs.Texts.{end_line}
-use Rattle.casper_app.proofs.CarryLemmas.{session_carried, stands_carried, summary_carried, trail_carried}
+use Rattle.casper_app.proofs.CarryLemmas.{session_carried, stands_carried, summary_carried, shape_carried, trail_carried}
 use Rattle.casper_app.proofs.SessionLemmas.{sessions_are_legal}
 
 -- how what was said after all differs from what was meant
@@ -89,24 +93,59 @@ told_by meant said answers told why all = elim all [
   | inr last ↦ inr (elim why [ inl meant_it ↦ ap cause_of meant_it ∙ last.0 | inr memory ↦ ap cause_of memory.0 ], last.1, last.2)
 ]
 
-tells_by : (meant said : End) (lines : ℕ) (start : State) (given : List Answer) (all : List (List ℕ)) → Said meant said → TellsOf meant (summary_of lines start (events_in all) given)
-    → TellsOf said (summary_of lines start (events_in all) given)
+-- a fact of what lines come to
+abbrev Coming : Type 1
+Coming = ℕ → End → List Event → List Answer → List Item → Type 0
+
+tells_by : (meant said : End) (summary : Summary) → Said meant said → TellsOf meant summary → TellsOf said summary
 unfolding Said
-tells_by meant said lines start given all why tells = elim why [
-  | inl same ↦ subst (λ (e : End). TellsOf e (summary_of lines start (events_in all) given)) (sym same) tells
-  | inr memory ↦ subst (λ (e : End). TellsOf e (summary_of lines start (events_in all) given)) (sym memory.0) tt
+tells_by meant said summary why tells = elim why [
+  | inl same ↦ subst (λ (e : End). TellsOf e summary) (sym same) tells
+  | inr memory ↦ subst (λ (e : End). TellsOf e summary) (sym memory.0) tt
+]
+
+shape_by : (meant said : End) (lines : ℕ) (events : List Event) (given : List Answer) (items : List Item) → Said meant said
+    → TellsInShape meant lines events given items → TellsInShape said lines events given items
+unfolding Said
+shape_by meant said lines events given items why tells = elim why [
+  | inl same ↦ subst (λ (e : End). TellsInShape e lines events given items) (sym same) tells
+  | inr memory ↦ subst (λ (e : End). TellsInShape e lines events given items) (sym memory.0) tt
 ]
 
 module _ {V : Type 0} {tells : Bool} {faults : V → ℕ} {left left_after taken between : Option (List ℕ)} {old new : Replay V} {result : Result ℕ Cause}
-    (reading : IsReading tells faults left left_after taken between old new result) (start : State) (told : IsTrue tells) (stands : Represents start old.core) (none : old.answers.items ≡ []) where
-  -- a reading and the line that tells how it ended make a replay
-  made : (meant last : End) (taken_after : Option (List ℕ)) → cause_of meant ≡ stop_of result
-      → TellsOf meant (summary_of (length reading.lines) start (events_in reading.lines) reading.given) → EndsWith meant last between taken_after
-      → RunsReplay start old.outlet (faults old.core.vault) (faults new.core.vault) left left_after taken taken_after new.answers.items new.core.hub.trail last
-  unfolding Said
-  made meant last taken_after same tells_it ending =
-      let session = session_carried tells faults (events_in reading.lines) reading.given old.core new.core start reading.carries told stands in
+    (reading : IsReading tells faults left left_after taken between old new result) where
+  -- what a reading comes to over a vault that tells what it holds
+  comes_from : (start : State) → IsTrue tells → Represents start old.core → (meant said : End) → Said meant said
+      → TellsOf meant (summary_of (length reading.lines) start (events_in reading.lines) reading.given)
+      → ComesFrom start (length reading.lines) said (events_in reading.lines) reading.given new.core.hub.trail
+  comes_from start told stands meant said why tells_it =
       let after = stands_carried tells faults (events_in reading.lines) reading.given old.core new.core start reading.carries told stands in
+      record {
+        session = session_carried tells faults (events_in reading.lines) reading.given old.core new.core start reading.carries told stands;
+        recorded = trail_carried (state_behind start (events_in reading.lines) reading.given) new.core after;
+        counted = tells_by meant said (summary_of (length reading.lines) start (events_in reading.lines) reading.given) why tells_it;
+      }
+
+  -- and over every vault
+  comes_in_shape : (start : State) → RepresentsButWords start old.core → (meant said : End) → Said meant said
+      → TellsInShape meant (length reading.lines) (events_in reading.lines) reading.given new.core.hub.trail
+      → ComesInShape start (length reading.lines) said (events_in reading.lines) reading.given new.core.hub.trail
+  comes_in_shape start shape meant said why tells_it =
+      let run : IsRunMade start (events_in reading.lines) reading.given new.core = reading.carries.shape start shape in
+      record {
+        each = reading.carries.each;
+        answers = run.answers;
+        recorded = sym run.shape.shared.trail;
+        counted = shape_by meant said (length reading.lines) (events_in reading.lines) reading.given new.core.hub.trail why tells_it;
+      }
+
+  -- a reading and the line that tells how it ended make a replay
+  made : (Comes : Coming) (none : old.answers.items ≡ []) (meant last : End) (taken_after : Option (List ℕ)) → cause_of meant ≡ stop_of result
+      → ((said : End) → Said meant said → Comes (length reading.lines) said (events_in reading.lines) reading.given new.core.hub.trail)
+      → EndsWith meant last between taken_after
+      → RunsReplay Comes old.outlet (faults old.core.vault) (faults new.core.vault) left left_after taken taken_after new.answers.items new.core.hub.trail last
+  unfolding Said
+  made Comes none meant last taken_after same comes ending =
       let ends = subst (λ (c : Option Cause). EndsFor c reading.lines reading.rest left_after) (sym same) reading.ends in
       let all = subst (λ (c : Option Cause). IsTold c (written_of old.outlet reading.given) reading.told) (sym same) reading.told_is in
       let whole = subst (λ (c : Option Cause). WritesAnswers c reading.told reading.out) (sym same) reading.written in
@@ -123,9 +162,7 @@ module _ {V : Type 0} {tells : Bool} {faults : V → ℕ} {left left_after taken
           few = reading.few;
           said = ending.said;
           ends = ends_by meant ending.said reading.lines reading.rest left_after ending.cause ends;
-          session = session;
-          recorded = trail_carried (state_behind start (events_in reading.lines) reading.given) new.core after;
-          counted = tells_by meant ending.said (length reading.lines) start reading.given reading.lines ending.cause tells_it;
+          comes = comes ending.said ending.cause;
           answered = reading.kept ∙ ap (λ (a : List Answer). a ++ kept_of old.outlet reading.given) none;
           told = reading.told;
           told_is = told_by meant ending.said (written_of old.outlet reading.given) reading.told ending.cause all;
@@ -138,63 +175,98 @@ module _ {V : Type 0} {tells : Bool} {faults : V → ℕ} {left left_after taken
       }
 
 -- the source was read to its end, and this is what the last line tells
-pub runs_done : {V : Type 0} {tells : Bool} {faults : V → ℕ} {left left_after taken between : Option (List ℕ)} {old new : Replay V} (count : ℕ) (start : State) (last : End) (taken_after : Option (List ℕ))
-    → IsReading tells faults left left_after taken between old new (Ok count) → IsTrue tells → Represents start old.core → old.core.calls ≡ 0 → old.answers.items ≡ []
-    → EndsWith (end.Done (summary_in count new.core)) last between taken_after
-    → RunsReplay start old.outlet (faults old.core.vault) (faults new.core.vault) left left_after taken taken_after new.answers.items new.core.hub.trail last
-runs_done {V} {tells} {faults} {left} {left_after} {taken} {between} {old} {new} count start last taken_after reading told stands calls none ending =
-    made reading start told stands none (end.Done (summary_in count new.core)) last taken_after refl
-    (summary_carried tells faults reading.lines reading.given old.core new.core start count reading.carries told stands calls reading.few
-    ∙ ap (λ (n : ℕ). summary_of n start (events_in reading.lines) reading.given) (sym reading.counted)) ending
+module _ {V : Type 0} {tells : Bool} {faults : V → ℕ} {left left_after taken between : Option (List ℕ)} {old new : Replay V} (count : ℕ) (start : State) (last : End) (taken_after : Option (List ℕ))
+    (reading : IsReading tells faults left left_after taken between old new (Ok count)) (calls : old.core.calls ≡ 0) (none : old.answers.items ≡ [])
+    (ending : EndsWith (end.Done (summary_in count new.core)) last between taken_after) where
+  meant : End
+  meant = end.Done (summary_in count new.core)
+
+  pub runs_done : IsTrue tells → Represents start old.core
+      → RunsReplay (ComesFrom start) old.outlet (faults old.core.vault) (faults new.core.vault) left left_after taken taken_after new.answers.items new.core.hub.trail last
+  unfolding meant
+  runs_done told stands =
+      let tells_it =
+      summary_carried tells faults reading.lines reading.given old.core new.core start count reading.carries told stands calls reading.few
+      ∙ ap (λ (n : ℕ). summary_of n start (events_in reading.lines) reading.given) (sym reading.counted) in
+      made reading (ComesFrom start) none meant last taken_after refl (λ said why. comes_from reading start told stands meant said why tells_it) ending
+
+  pub shape_done : RepresentsButWords start old.core
+      → RunsReplay (ComesInShape start) old.outlet (faults old.core.vault) (faults new.core.vault) left left_after taken taken_after new.answers.items new.core.hub.trail last
+  unfolding meant
+  shape_done shape =
+      let tells_it = shape_carried tells faults reading.lines reading.given old.core new.core count reading.carries calls reading.few (sym reading.counted) in
+      made reading (ComesInShape start) none meant last taken_after refl (λ said why. comes_in_shape reading start shape meant said why tells_it) ending
 
 -- the reading ended before
-pub runs_stopped : {V : Type 0} {tells : Bool} {faults : V → ℕ} {left left_after taken between : Option (List ℕ)} {old new : Replay V} (said : Cause) (start : State) (last : End) (taken_after : Option (List ℕ))
-    → IsReading tells faults left left_after taken between old new (Err said) → IsTrue tells → Represents start old.core → old.answers.items ≡ []
-    → EndsWith (end.Stopped said) last between taken_after
-    → RunsReplay start old.outlet (faults old.core.vault) (faults new.core.vault) left left_after taken taken_after new.answers.items new.core.hub.trail last
-runs_stopped said start last taken_after reading told stands none ending = made reading start told stands none (end.Stopped said) last taken_after refl tt ending
+module _ {V : Type 0} {tells : Bool} {faults : V → ℕ} {left left_after taken between : Option (List ℕ)} {old new : Replay V} (said : Cause) (start : State) (last : End) (taken_after : Option (List ℕ))
+    (reading : IsReading tells faults left left_after taken between old new (Err said)) (none : old.answers.items ≡ [])
+    (ending : EndsWith (end.Stopped said) last between taken_after) where
+  pub runs_stopped : IsTrue tells → Represents start old.core
+      → RunsReplay (ComesFrom start) old.outlet (faults old.core.vault) (faults new.core.vault) left left_after taken taken_after new.answers.items new.core.hub.trail last
+  runs_stopped told stands =
+      made reading (ComesFrom start) none (end.Stopped said) last taken_after refl (λ after why. comes_from reading start told stands (end.Stopped said) after why tt) ending
+
+  pub shape_stopped : RepresentsButWords start old.core
+      → RunsReplay (ComesInShape start) old.outlet (faults old.core.vault) (faults new.core.vault) left left_after taken taken_after new.answers.items new.core.hub.trail last
+  shape_stopped shape =
+      made reading (ComesInShape start) none (end.Stopped said) last taken_after refl (λ after why. comes_in_shape reading start shape (end.Stopped said) after why tt) ending
 
 no_answers_of : (test : Bool) → ◌≡◌ {A = List Answer} (cond test [] []) []
 no_answers_of true = refl
 no_answers_of false = refl
 
 -- nothing was read, and memory was short
-pub runs_unread : (start : State) (outlet : Outlet) (faults : ℕ) (left taken taken_after : Option (List ℕ)) (answers : List Answer) (items : List Item) (last : End) → EndsWith (end.Stopped cause.Memory) last taken taken_after
-    → answers ≡ [] → items ≡ start.shared.trail → RunsReplay start outlet faults faults left left taken taken_after answers items last
-unfolding Said
-runs_unread start outlet faults left taken taken_after answers items last ending no_answers same_items = record {
-  given = [];
-  failures = omega arith;
-  out = ending.out;
-  taken_is = ending.taken;
-  replay = record {
-    lines = [];
-    rest = left;
-    reads = refl;
-    taken = tt;
-    few = omega arith;
-    said = ending.said;
-    ends = ends_by (end.Stopped cause.Memory) ending.said [] left left ending.cause (inl refl);
+module _ (start : State) (outlet : Outlet) (faults : ℕ) (left taken taken_after : Option (List ℕ)) (answers : List Answer) (items : List Item) (last : End)
+    (ending : EndsWith (end.Stopped cause.Memory) last taken taken_after) (no_answers : answers ≡ []) (same_items : items ≡ start.shared.trail) where
+  unread : (Comes : Coming) → ((said : End) → Said (end.Stopped cause.Memory) said → Comes 0 said [] [] items)
+      → RunsReplay Comes outlet faults faults left left taken taken_after answers items last
+  unfolding Said
+  unread Comes comes = record {
+    given = [];
+    failures = omega arith;
+    out = ending.out;
+    taken_is = ending.taken;
+    replay = record {
+      lines = [];
+      rest = left;
+      reads = refl;
+      taken = tt;
+      few = omega arith;
+      said = ending.said;
+      ends = ends_by (end.Stopped cause.Memory) ending.said [] left left ending.cause (inl refl);
+      comes = comes ending.said ending.cause;
+      answered = no_answers ∙ sym (no_answers_of (keeps outlet));
+      told = [];
+      told_is = inl (no_answers_of (writes outlet));
+      text = [];
+      answers_written = answers_by (end.Stopped cause.Memory) ending.said [] [] ending.cause refl;
+      ending = ending.out;
+      ending_written = ending.written;
+      written = refl;
+    };
+  }
+
+  pub runs_unread : RunsReplay (ComesFrom start) outlet faults faults left left taken taken_after answers items last
+  runs_unread = unread (ComesFrom start) (λ said why. record {
     session = record { each = refl; outside_fits = refl; answers = refl };
     recorded = same_items;
-    counted = tells_by (end.Stopped cause.Memory) ending.said 0 start [] [] ending.cause tt;
-    answered = no_answers ∙ sym (no_answers_of (keeps outlet));
-    told = [];
-    told_is = inl (no_answers_of (writes outlet));
-    text = [];
-    answers_written = answers_by (end.Stopped cause.Memory) ending.said [] [] ending.cause refl;
-    ending = ending.out;
-    ending_written = ending.written;
-    written = refl;
-  };
-}
+    counted = tells_by (end.Stopped cause.Memory) said (summary_of 0 start [] []) why tt;
+  })
+
+  pub shape_unread : RunsReplay (ComesInShape start) outlet faults faults left left taken taken_after answers items last
+  shape_unread = unread (ComesInShape start) (λ said why. record {
+    each = refl;
+    answers = refl;
+    recorded = same_items;
+    counted = shape_by (end.Stopped cause.Memory) said 0 [] [] items why tt;
+  })
 
 -- over a vault whose faults are never counted nothing failed
 never_failed : (count : ℕ) → RoseBy count 0 0 → count ≡ 0
 never_failed count rose = omega (arith, rose)
 
 pub runs_in_memory : (opening : Opening) (left left_after taken taken_after : Option (List ℕ)) (answers : List Answer) (items : List Item) (last : End)
-    → RunsReplay (start_of opening) outlet.Written 0 0 left left_after taken taken_after answers items last → RunsInMemory opening left left_after taken taken_after answers items last
+    → RunsReplay (ComesFrom (start_of opening)) outlet.Written 0 0 left left_after taken taken_after answers items last → RunsInMemory opening left left_after taken taken_after answers items last
 runs_in_memory opening left left_after taken taken_after answers items last run = record {
   given = run.given;
   unfailing = never_failed (failures_in run.given) run.failures;
@@ -205,7 +277,7 @@ runs_in_memory opening left left_after taken taken_after answers items last run 
 
 -- what was read and recorded is legal
 pub legal_in_memory : (opening : Opening) (faults faults_after : ℕ) (left left_after taken taken_after : Option (List ℕ)) (answers : List Answer) (items : List Item) (last : End)
-    → RunsReplay (start_of opening) outlet.Written faults faults_after left left_after taken taken_after answers items last → IsLegalInMemory opening left answers items
+    → RunsReplay (ComesFrom (start_of opening)) outlet.Written faults faults_after left left_after taken taken_after answers items last → IsLegalInMemory opening left answers items
 legal_in_memory opening faults faults_after left left_after taken taken_after answers items last run =
     let replay = run.replay in
     let legal = sessions_are_legal (zero_vault opening.pages) opening.pages opening.entries opening.cache replay.lines run.given in
@@ -214,22 +286,22 @@ legal_in_memory opening faults faults_after left left_after taken taken_after an
       lines = replay.lines;
       rest = replay.rest;
       reads = replay.reads;
-      session = subst (λ (a : List Answer). IsSession (start_of opening) (events_in replay.lines) a) all replay.session;
-      recorded = replay.recorded ∙ ap (trail_behind (start_of opening) (events_in replay.lines)) all;
-      legal = subst (λ (i : List Item). IsLegal (start_of opening).base i) (sym replay.recorded) legal.0;
+      session = subst (λ (a : List Answer). IsSession (start_of opening) (events_in replay.lines) a) all replay.comes.session;
+      recorded = replay.comes.recorded ∙ ap (trail_behind (start_of opening) (events_in replay.lines)) all;
+      legal = subst (λ (i : List Item). IsLegal (start_of opening).base i) (sym replay.comes.recorded) legal.0;
       whole = subst (λ (a : List Answer). IsLegal (start_of opening).base (whole_of (state_behind (start_of opening) (events_in replay.lines) a))) all legal.1;
     }
 
 -- the same, by what the calls of a replay gave
-pub runs_at : (start : State) (outlet outlet' : Outlet) (faults faults' after after' : ℕ) (left left_after taken taken_after : Option (List ℕ)) (answers answers' : List Answer) (items items' : List Item) (last : End)
+pub runs_at : (Comes : Coming) (outlet outlet' : Outlet) (faults faults' after after' : ℕ) (left left_after taken taken_after : Option (List ℕ)) (answers answers' : List Answer) (items items' : List Item) (last : End)
     → outlet ≡ outlet' → faults ≡ faults' → after ≡ after' → answers ≡ answers' → items ≡ items'
-    → RunsReplay start outlet faults after left left_after taken taken_after answers items last → RunsReplay start outlet' faults' after' left left_after taken taken_after answers' items' last
-runs_at start outlet outlet' faults faults' after after' left left_after taken taken_after answers answers' items items' last same_outlet same_faults same_after same_answers same_items run =
-    subst (λ (o : Outlet). RunsReplay start o faults' after' left left_after taken taken_after answers' items' last) same_outlet
-    (subst (λ (n : ℕ). RunsReplay start outlet n after' left left_after taken taken_after answers' items' last) same_faults
-    (subst (λ (n : ℕ). RunsReplay start outlet faults n left left_after taken taken_after answers' items' last) same_after
-    (subst (λ (a : List Answer). RunsReplay start outlet faults after left left_after taken taken_after a items' last) same_answers
-    (subst (λ (i : List Item). RunsReplay start outlet faults after left left_after taken taken_after answers i last) same_items run))))
+    → RunsReplay Comes outlet faults after left left_after taken taken_after answers items last → RunsReplay Comes outlet' faults' after' left left_after taken taken_after answers' items' last
+runs_at Comes outlet outlet' faults faults' after after' left left_after taken taken_after answers answers' items items' last same_outlet same_faults same_after same_answers same_items run =
+    subst (λ (o : Outlet). RunsReplay Comes o faults' after' left left_after taken taken_after answers' items' last) same_outlet
+    (subst (λ (n : ℕ). RunsReplay Comes outlet n after' left left_after taken taken_after answers' items' last) same_faults
+    (subst (λ (n : ℕ). RunsReplay Comes outlet faults n left left_after taken taken_after answers' items' last) same_after
+    (subst (λ (a : List Answer). RunsReplay Comes outlet faults after left left_after taken taken_after a items' last) same_answers
+    (subst (λ (i : List Item). RunsReplay Comes outlet faults after left left_after taken taken_after answers i last) same_items run))))
 
 -- words are refused for no fault of the sink
 pub not_write : (refused : Cause) → (refused ≡ cause.Usage) ⊎ (refused ≡ cause.Unbuilt 0) → refused ≡ cause.Write → ⊥

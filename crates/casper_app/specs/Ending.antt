@@ -10,6 +10,7 @@ use Rattle.casper_io.specs.Reading.{ReadsLines}
 use Rattle.casper_trail.specs.declared.item.Item.{Item}
 use Rattle.casper_trail.specs.Legal.{IsLegal}
 use Rattle.casper_trail.specs.Value.{zero_pages}
+use Rattle.casper_model.specs.declared.event.Event.{Event}
 use Rattle.casper_model.specs.State.{State, zero_start}
 use Rattle.casper_model.specs.WholeHistory.{whole_of}
 use Rattle.casper_space.specs.declared.answer.Answer.{Answer}
@@ -22,6 +23,7 @@ use Rattle.casper_app.specs.declared.end.End.{End}
 use Rattle.casper_app.specs.declared.end.End.TheVariants as end
 use Rattle.casper_app.specs.declared.outlet.Outlet.{Outlet}
 use Rattle.casper_app.specs.declared.outlet.Outlet.TheVariants as outlet
+use Rattle.casper_app.specs.Comes.{ComesFrom}
 use Rattle.casper_app.specs.Command.{command_of}
 use Rattle.casper_app.specs.Lines.{events_in}
 use Rattle.casper_app.specs.Session.{IsSession, state_behind, trail_behind}
@@ -48,13 +50,14 @@ IsDone (end.Done summary) = Unit {0}
 IsDone (end.Legal entries) = Unit {0}
 IsDone (end.Stopped cause) = ⊥
 
--- a replay from a start wrote this, and as many steps failed by the outside, at most, as the count of the vault's faults tells
-pub record RunsReplay (start : State) (outlet : Outlet) (faults faults_after : ℕ) (left left_after taken taken_after : Option (List ℕ)) (answers : List Answer) (items : List Item) (last : End) : Type 0 where
+-- a replay whose lines come to something wrote this, and as many steps failed by the outside, at most, as the count of the vault's
+-- faults tells
+pub record RunsReplay (Comes : ℕ → End → List Event → List Answer → List Item → Type 0) (outlet : Outlet) (faults faults_after : ℕ) (left left_after taken taken_after : Option (List ℕ)) (answers : List Answer) (items : List Item) (last : End) : Type 0 where
   pub given : List Answer
   pub failures : RoseBy (failures_in given) faults faults_after
   pub out : List ℕ
   pub taken_is : taken_after ≡ append_known taken out
-  pub replay : IsReplay start outlet left left_after given answers items last out
+  pub replay : IsReplay Comes outlet left left_after given answers items last out
 
 -- a session over a store in memory as its opening says begins here
 abbrev pub start_of : Opening → State
@@ -66,7 +69,7 @@ pub record RunsInMemory (opening : Opening) (left left_after taken taken_after :
   pub unfailing : failures_in given ≡ 0
   pub out : List ℕ
   pub taken_is : taken_after ≡ append_known taken out
-  pub replay : IsReplay (start_of opening) outlet.Written left left_after given answers items last out
+  pub replay : IsReplay (ComesFrom (start_of opening)) outlet.Written left left_after given answers items last out
 
 -- the words were refused, and this was written
 pub record RunsRefusal (refused : Cause) (left left_after taken taken_after : Option (List ℕ)) (answers : List Answer) (items : List Item) (last : End) : Type 0 where

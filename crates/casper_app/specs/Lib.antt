@@ -1,4 +1,6 @@
 pub mod Carrying
+pub mod Chain
+pub mod Comes
 pub mod Command
 pub mod Ending
 pub mod Grammar

@@ -4,6 +4,7 @@ use Rattle.casper_words.specs.Crew.{IsClient}
 use Rattle.casper_text.specs.Line.{IsPrintable, words}
 use Rattle.casper_model.specs.declared.event.Event.{Event}
 use Rattle.casper_app.specs.declared.schedule.Parsed.TheVariants as parsed
+use Rattle.casper_app.specs.declared.command.Command.TheVariants as command
 use Rattle.casper_app.specs.Command.{command_of, replay_of_pages}
 use Rattle.casper_app.specs.Grammar.{words_of_event, IsEvent}
 use Rattle.casper_app.specs.Schedule.{unbuilt_verbs, parsed_line}
@@ -54,3 +55,7 @@ words_of_replay pages = codes "replay" ∷ (codes "mem:" ++ decimal pages) ∷ [
 abbrev pub ReplaysHaveOneText : Type 0
 ReplaysHaveOneText = (list : List (List ℕ)) (pages : ℕ)
     → (command_of list ≡ Ok (replay_of_pages pages)) ↔ ((1 ≤ pages) × (pages ≤ 16384) × (list ≡ words_of_replay pages))
+
+-- these words, and no others, ask for an audit
+abbrev pub AuditsHaveOneText : Type 0
+AuditsHaveOneText = (list : List (List ℕ)) → (command_of list ≡ Ok command.Audit) ↔ (list ≡ codes "audit" ∷ [])

@@ -1,5 +1,6 @@
-use Rattle.std.specs.Prelude.{◌≡◌, ◌==◌, ◌&&◌, ◌||◌, not, Bool, true, false, ℕ, List, [], ◌∷◌, ◌++◌, map}
+use Rattle.std.specs.Prelude.{◌≡◌, ◌==◌, ◌&&◌, ◌||◌, not, Bool, true, false, ℕ, List, [], ◌∷◌, ◌++◌, map, cond}
 use Rattle.casper_words.specs.declared.call.Call.{Call}
+use Rattle.casper_trail.specs.Calls.{calls_of}
 use Rattle.casper_trail.specs.Legal.{IsLegal}
 use Rattle.casper_space.specs.declared.answer.Answer.{Answer}
 use Rattle.casper_model.specs.declared.event.Event.{Event}
@@ -8,11 +9,13 @@ use Rattle.casper_model.specs.Outside.{NothingFailed}
 use Rattle.casper_model.specs.Run.{Happening, state_after, answers_of}
 use Rattle.casper_model.specs.Rights.{AllNameClients}
 use Rattle.casper_model.specs.State.{State, start}
+use Rattle.casper_model.specs.Step.{step}
 use Rattle.casper_model.specs.Vault.{VaultState}
 use Rattle.casper_model.specs.WholeHistory.{whole_of}
+use Rattle.casper_core.specs.Acting.{outside_of}
 use Rattle.casper_core.specs.Stepping.{happenings_of, failures_in}
 use Rattle.casper_laws.specs.HeldWordSteps.{is_turn_of}
-use Rattle.casper_laws.specs.OwnLists.{own_list_of, completed_calls, is_rolled_back}
+use Rattle.casper_laws.specs.OwnLists.{own_list_of, completed_calls, drops_pending, is_rolled_back}
 use Rattle.casper_app.specs.Lines.{events_in}
 use Rattle.casper_app.specs.Session.{IsSession, state_behind, trail_behind}
 
@@ -66,3 +69,22 @@ SessionsKeepCalls =
     (vault : VaultState) (pages limit capacity : ℕ) (lines : List (List ℕ)) (given : List Answer) (who : ℕ)
     → IsSession (start vault pages limit capacity) (events_in lines) given → none_dropped (events_in lines) given who ≡ true
     → own_list_of (state_behind (start vault pages limit capacity) (events_in lines) given) who ≡ calls_answered (events_in lines) given who
+
+-- the calls of a client as events so answered leave them: those that an answer completes come last, and where the client is told that
+-- it was rolled back, or vanishes, those that are recorded are left, and what was pending is dropped
+abbrev pub calls_kept : State → List Event → List Answer → ℕ → List Call → List Call
+calls_kept state [] answers client calls = calls
+calls_kept state (asked ∷ events) [] client calls = calls
+calls_kept state (asked ∷ events) (given ∷ answers) client calls =
+    let recorded = calls_of state.shared.trail client in
+    let left = cond (drops_pending state asked given client) recorded calls in
+    calls_kept (step state asked (outside_of given)).state events answers client (left ++ completed_calls asked given client)
+
+-- so each client's recorded calls and then its pending ones are those that the answers complete, in their order, but those that were
+-- dropped
+abbrev pub SessionsKeepCallsButDropped : Type 0
+SessionsKeepCallsButDropped =
+    (vault : VaultState) (pages limit capacity : ℕ) (lines : List (List ℕ)) (given : List Answer) (who : ℕ)
+    → let begun = start vault pages limit capacity in
+    IsSession begun (events_in lines) given
+    → own_list_of (state_behind begun (events_in lines) given) who ≡ calls_kept begun (events_in lines) given who []

@@ -4,9 +4,7 @@ use Rattle.casper_io.specs.Reading.{most_lines, ReadsLines, TakesAny}
 use Rattle.casper_io.specs.Told.{WhereTold}
 use Rattle.casper_trail.specs.declared.item.Item.{Item}
 use Rattle.casper_model.specs.declared.event.Event.{Event}
-use Rattle.casper_model.specs.State.{State}
 use Rattle.casper_space.specs.declared.answer.Answer.{Answer}
-use Rattle.casper_report.specs.declared.summary.Summary.{Summary}
 use Rattle.casper_report.specs.Texts.{answer_line, answer_lines}
 use Rattle.casper_app.specs.declared.cause.Cause.{Cause}
 use Rattle.casper_app.specs.declared.cause.Cause.TheVariants as cause
@@ -17,7 +15,6 @@ use Rattle.casper_app.specs.declared.schedule.Parsed.TheVariants as parsed
 use Rattle.casper_app.specs.Schedule.{parsed_line}
 use Rattle.casper_app.specs.Lines.{event_of_line, events_in, AreTaken}
 use Rattle.casper_app.specs.Outlet.{kept_of, written_of}
-use Rattle.casper_app.specs.Session.{IsSession, summary_of, trail_behind}
 use Rattle.casper_app.specs.Texts.{end_line}
 
 -- a line stands next that is too long, of no known form, or one too many
@@ -87,14 +84,9 @@ WritesAnswers (Some (cause.Unbuilt number)) told out = out ≡ answer_lines told
 abbrev pub IsTold : Option Cause → List Answer → List Answer → Type 0
 IsTold said answers told = (answers ≡ told) ⊎ ((said ≡ Some cause.Memory) × (last : Answer) × (answers ≡ told ++ last ∷ []))
 
--- the end of a replay that is done tells this, and no replay ends as another command does
-abbrev pub TellsOf : End → Summary → Type 0
-TellsOf (end.Done told) summary = told ≡ summary
-TellsOf (end.Legal entries) summary = ⊥
-TellsOf (end.Stopped cause) summary = Unit {0}
-
--- a replay from a start, from the bytes left before to those left after it, with the answers that the events of its lines got
-pub record IsReplay (start : State) (outlet : Outlet) (before after : Option (List ℕ)) (given answers : List Answer) (items : List Item) (last : End) (out : List ℕ) : Type 0 where
+-- a replay whose lines come to something, from the bytes left before to those left after it, with the answers that the events of its
+-- lines got
+pub record IsReplay (Comes : ℕ → End → List Event → List Answer → List Item → Type 0) (outlet : Outlet) (before after : Option (List ℕ)) (given answers : List Answer) (items : List Item) (last : End) (out : List ℕ) : Type 0 where
   -- the lines that were skipped or answered, and what was left after them
   pub lines : List (List ℕ)
   pub rest : Option (List ℕ)
@@ -104,10 +96,8 @@ pub record IsReplay (start : State) (outlet : Outlet) (before after : Option (Li
   -- how the reading ended
   pub said : End
   pub ends : EndsFor (cause_of said) lines rest after
-  -- the answers are the machine's to the events that the lines ask for, and the trail is its own
-  pub session : IsSession start (events_in lines) given
-  pub recorded : items ≡ trail_behind start (events_in lines) given
-  pub counted : TellsOf said (summary_of (length lines) start (events_in lines) given)
+  -- what the events that the lines ask for come to, with their answers and the trail
+  pub comes : Comes (length lines) said (events_in lines) given items
   -- the answers were kept, and written, each before the next line was read; and then how it ended
   pub answered : answers ≡ kept_of outlet given
   pub told : List Answer

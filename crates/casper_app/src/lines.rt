@@ -4,18 +4,17 @@ ghost use Rattle.casper_app.specs.Reading.{IsReading};
 
 use crate::Cause;
 use crate::replay::Replay;
+use crate::room::Room;
 use crate::taking::read_line;
 use casper_disk::Vault;
-use casper_io::{Line, MOST_LINES, Sink, Source};
+use casper_io::{MOST_LINES, Sink, Source};
 use casper_trail::Mark;
-use std::alloc::Global;
 
 /// Reads lines and answers each before it reads the next, up to the end of the source, where the answer is how many lines it had, or
 /// to the first that is refused.
 pub(crate) fn take_lines<V: Vault, S: Source, K: Sink>(
-    alloc: Global,
     replay: &mut Replay<V>,
-    line: &mut Line,
+    room: &mut Room,
     source: &mut S,
     sink: &mut K,
 ) -> Result<u32, Cause>
@@ -33,12 +32,12 @@ pub(crate) fn take_lines<V: Vault, S: Source, K: Sink>(
 {
     let _mark: Option<Mark> = None;
     for lines in 0..MOST_LINES {
-        if !read_line(source, line, lines + 1)? {
+        if !read_line(source, &mut room.line, lines + 1)? {
             return Ok(lines);
         }
-        replay.take_line(alloc, lines + 1, line.bytes(), sink)?;
+        replay.take_line(lines + 1, room, sink)?;
     }
-    if read_line(source, line, MOST_LINES + 1)? {
+    if read_line(source, &mut room.line, MOST_LINES + 1)? {
         return Err(Cause::BadLine(MOST_LINES + 1));
     }
     Ok(MOST_LINES)

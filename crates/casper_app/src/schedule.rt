@@ -1,11 +1,10 @@
-ghost use Rattle.std.specs.Prelude.{◌≡◌, [], ◌∷◌, ◌<◌, ◌≤◌, ◌^◌, length, map, position, All, IfOk, IfSome};
+ghost use Rattle.std.specs.Prelude.{◌≡◌, [], ◌∷◌, ◌<◌, length, map, position, All, IfOk, IfSome};
 ghost use Rattle.casper_text.specs.Span.{IsWithin, word_at};
 ghost use Rattle.casper_app.specs.Schedule.{client_of as client_in, lone_client as lone_client_in, place_of as place_in, right_of as right_in, want_of as want_in, wants_of as wants_in, rising_wants, is_colon, join_of, read_of, write_of, acquire_of, serve_of, depart_of, event_of as event_of_line, is_unbuilt as begins_unbuilt, is_unbuilt_verb as among_unbuilt, is_comment as begins_comment, parsed_words as words_parsed, parsed_line as line_parsed};
 
 use casper_model::Event;
-use casper_text::{Span, number, small_number, words_of};
+use casper_text::{Span, number, small_number, words_into};
 use casper_words::{Memory, Page, Right, Want, Wants, Who};
-use std::alloc::Global;
 
 /// What a line of a schedule is.
 #[derive(Clone, Copy, Debug, PartialEq, Eq)]
@@ -20,16 +19,17 @@ pub enum Parsed {
     Bad,
 }
 
-/// Reads a line of at most 1,024 bytes. Memory is asked for the list of its words alone.
-pub(crate) fn parse_line(alloc: Global, line: &[u8]) -> Result<Parsed, Memory>
-    requires { length line.now ≤ 1024 }
+/// Reads a line, and puts the places of its words into the list. Memory is asked for only where the list has no room for them.
+pub(crate) fn parse_line(line: &[u8], spans: &mut Vec<Span>) -> Result<Parsed, Memory>
     ensures { IfOk result (λ parsed. parsed ≡ line_parsed line.now) }
 {
-    match words_of(alloc, line)? {
-        None => Ok(Parsed::Bad),
-        Some(_) if is_comment(line) => Ok(Parsed::Skip),
-        Some(spans) => Ok(parse_words(line, &spans)),
+    if !words_into(line, spans)? {
+        return Ok(Parsed::Bad);
     }
+    if is_comment(line) {
+        return Ok(Parsed::Skip);
+    }
+    Ok(parse_words(line, spans))
 }
 
 fn is_comment(line: &[u8]) -> bool

@@ -7,13 +7,13 @@ ghost use Rattle.casper_app.specs.Taking.{TakesEvent, TakesInput, NoLine};
 
 use crate::Cause;
 use crate::replay::Replay;
+use crate::room::Room;
 use crate::schedule::{Parsed, parse_line};
 use casper_disk::Vault;
 use casper_io::{IoFault, Line, Next, Sink, Source, next_line, put_all};
 use casper_model::Event;
-use casper_report::answer_text;
+use casper_report::set_answer_text;
 use casper_trail::Mark;
-use std::alloc::Global;
 
 /// Reads the next line into `line`, and tells whether there is one. The line would be of this number.
 pub(crate) fn read_line<S: Source>(
@@ -42,16 +42,14 @@ pub(crate) fn read_line<S: Source>(
 }
 
 impl<V: Vault> Replay<V> {
-    /// Answers a line, if it asks for an event, and writes the answer where answers are written.
+    /// Answers the line that was read, if it asks for an event, and writes the answer where answers are written.
     pub(crate) fn take_line<K: Sink>(
         &mut self,
-        alloc: Global,
         number: u32,
-        line: &[u8],
+        room: &mut Room,
         sink: &mut K,
     ) -> Result<(), Cause>
-        requires { length line.now ≤ 1024 }
-        ensures takes { TakesInput V.tells V.faults number line.now self.old self.new
+        ensures takes { TakesInput V.tells V.faults number room.old.line self.old self.new
             (K.taken sink.old) (K.taken sink.new) result }
         ensures read { result ≢ Err Cause.Read }
         ensures fault { result ≡ Err Cause.Write
@@ -59,19 +57,19 @@ impl<V: Vault> Replay<V> {
         ensures sink_stands { (result ≡ Err Cause.Write) ⊎ (K.faults sink.new ≡ K.faults sink.old) }
     {
         let _mark: Option<Mark> = None;
-        match parse_line(alloc, line)? {
+        match parse_line(room.line.bytes(), &mut room.spans)? {
             Parsed::Skip => Ok(()),
-            Parsed::Event(event) => self.take_event(alloc, &event, sink),
+            Parsed::Event(event) => self.take_event(&event, &mut room.text, sink),
             Parsed::Unbuilt => Err(Cause::Unbuilt(number)),
             Parsed::Bad => Err(Cause::BadLine(number)),
         }
     }
 
-    /// Answers an event, and writes the answer where answers are written.
+    /// Answers an event, and writes the answer where answers are written, with its text in the place of what the text had.
     fn take_event<K: Sink>(
         &mut self,
-        alloc: Global,
         event: &Event,
+        text: &mut Vec<u8>,
         sink: &mut K,
     ) -> Result<(), Cause>
         requires { IsBuilt event.now }
@@ -87,7 +85,7 @@ impl<V: Vault> Replay<V> {
         if !self.outlet.writes() {
             return Ok(());
         }
-        let text = answer_text(alloc, &answer)?;
+        set_answer_text(text, &answer)?;
         match put_all(sink, text.as_slice()) {
             Ok(()) => Ok(()),
             Err(IoFault::Failed) => Err(Cause::Write),

@@ -1,7 +1,9 @@
 ghost use Rattle.std.specs.Prelude.{◌≡◌, ◌≤◌, [], ◌⊎◌, IsTrue, IfSome, IfOk};
 ghost use Rattle.casper_core.specs.Represents.{Represents};
+ghost use Rattle.casper_core.specs.Shaped.{RepresentsButWords};
 ghost use Rattle.casper_model.specs.State.{State};
 ghost use Rattle.casper_words.specs.Count.{FaultCountRose};
+ghost use Rattle.casper_app.specs.Comes.{ComesFrom, ComesInShape};
 ghost use Rattle.casper_app.specs.Command.{IsCommand, IsOpening};
 ghost use Rattle.casper_app.specs.Status.{status_of_end};
 ghost use Rattle.casper_app.specs.Ending.{IsRun, IsLegalRun, RunsCommand, IsLegalCommand, RunsAudit, end_of_audit, RunsReplay, RunsInMemory, IsLegalInMemory, EndsWith, IsDone, start_of};
@@ -11,11 +13,12 @@ use crate::ending::write_ending;
 use crate::lines::take_lines;
 use crate::outlet::Outlet;
 use crate::replay::Replay;
+use crate::room::Room;
 use crate::{Cause, End};
 use casper_audit::{AuditFault, Verdict, audit};
 use casper_core::Core;
 use casper_disk::{MemVault, Vault};
-use casper_io::{Line, Sink, Source};
+use casper_io::{Sink, Source};
 use casper_space::Answers;
 use casper_text::Word;
 use casper_trail::{Mark, Trail};
@@ -203,7 +206,11 @@ fn replay<V: Vault, S: Source, K: Sink>(
 ) -> (Ended, V)
     requires { core.calls ≡ 0 }
     ensures run { IsTrue V.tells → (start : State) → Represents start core
-        → RunsReplay start outlet (V.faults core.vault) (V.faults result.1)
+        → RunsReplay (ComesFrom start) outlet (V.faults core.vault) (V.faults result.1)
+        (S.left source.old) (S.left source.new) (K.taken sink.old)
+        (K.taken sink.new) result.0.answers.items result.0.trail.items result.0.last }
+    ensures shape { (start : State) → RepresentsButWords start core
+        → RunsReplay (ComesInShape start) outlet (V.faults core.vault) (V.faults result.1)
         (S.left source.old) (S.left source.new) (K.taken sink.old)
         (K.taken sink.new) result.0.answers.items result.0.trail.items result.0.last }
     ensures end { IsDone result.0.last → IfSome (S.left source.new) (λ left. left ≡ []) }
@@ -219,8 +226,8 @@ fn replay<V: Vault, S: Source, K: Sink>(
         ⊎ (K.faults sink.new ≡ K.faults sink.old) }
 {
     let _mark: Option<Mark> = None;
-    let mut line = match Line::new(alloc) {
-        Ok(line) => line,
+    let mut room = match Room::new(alloc) {
+        Ok(room) => room,
         Err(Memory) => {
             let (hub, vault) = core.into_parts();
             let ended = end_unread(alloc, Cause::Memory, hub.into_trail(), sink);
@@ -228,7 +235,7 @@ fn replay<V: Vault, S: Source, K: Sink>(
         }
     };
     let mut replay = Replay::new(alloc, core, outlet);
-    let said = match take_lines(alloc, &mut replay, &mut line, source, sink) {
+    let said = match take_lines(&mut replay, &mut room, source, sink) {
         Ok(lines) => End::Done(replay.summary(lines)),
         Err(cause) => End::Stopped(cause),
     };

@@ -155,8 +155,8 @@ mod tests {
     }
 
     #[test]
-    fn the_eighth_read_fails(rt: HostRuntime) -> Result<(), Fail> {
-        let mut source = MemSource::new(rt.alloc(), b"t 1 5\nt 2 5\n", &[8])?;
+    fn the_second_read_fails(rt: HostRuntime) -> Result<(), Fail> {
+        let mut source = MemSource::new(rt.alloc(), b"t 1 5\nt 2 5\n", &[2])?;
         assert_eq!(rt; audit(rt.alloc(), &mut source), Err(AuditFault::Read));
         Ok(())
     }

@@ -1,5 +1,5 @@
 pub mod Cut
 pub mod Known
 pub mod LinesRead
-pub mod Moved
+pub mod PieceLemmas
 pub mod Reading

@@ -1,4 +1,4 @@
-use Rattle.std.proofs.Common.{◌≡◌, ℕ, List, [], ◌∷◌, ◌++◌, Option, sym, subst, refl}
+use Rattle.std.proofs.Common.{ℕ, List, [], ◌∷◌, ◌++◌, Option, sym, subst, refl}
 use Rattle.casper_io.specs.Lines.{TakesLine}
 use Rattle.casper_io.specs.Reading.{ReadsLines}
 use Rattle.casper_io.specs.Told.{WhereTold}

@@ -1,4 +1,5 @@
 pub mod Lines
 pub mod Memory
+pub mod Piece
 pub mod Reading
 pub mod Told

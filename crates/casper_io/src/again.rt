@@ -1,18 +1,18 @@
 ghost use Rattle.std.specs.Prelude.{◌≤◌, length, IfOk};
 
-use std::io::{Error, ErrorKind, Read, Write};
+use std::io::{BufRead, Error, ErrorKind, Write};
 
 /// How often a call that a signal interrupts is made.
 const MOST_TRIES: u32 = 1_000_000;
 
-/// Reads into the piece, again where a signal interrupted the read.
-pub(crate) fn read_again<R: Read>(reader: &mut R, into: &mut [u8]) -> std::io::Result<usize>
-    ensures { IfOk result (λ count. count ≤ length into.new) }
-{
+/// Fills the reader's buffer where it is empty, again where a signal interrupted the read. Where it is empty after it, no byte
+/// is left.
+pub(crate) fn fill_again<R: BufRead>(reader: &mut R) -> std::io::Result<()> {
     for _try in 0..MOST_TRIES {
-        match reader.read(into) {
+        match reader.fill_buf() {
             Err(error) if error.kind() == ErrorKind::Interrupted => {}
-            answered => return answered,
+            Err(error) => return Err(error),
+            Ok(_filled) => return Ok(()),
         }
     }
     Err(Error::from(ErrorKind::Interrupted))

@@ -1,7 +1,10 @@
-ghost use Rattle.std.specs.Prelude.{◌≡◌, ℕ, ◌<◌, ◌≤◌, ◌↔◌, List, [], ◌∷◌, ◌++◌, length, IsTrue, IfOk};
+ghost use Rattle.std.specs.Prelude.{◌≡◌, ℕ, ◌≤◌, ◌↔◌, List, [], Some, drop, length, IsTrue, IfOk};
+ghost use Rattle.casper_io.specs.Piece.{GivesPiece};
 
+use crate::Piece;
 use crate::spare::push_all;
 use casper_words::Memory;
+use memchr::memchr;
 use std::alloc::Global;
 use std::marker::Model;
 
@@ -56,23 +59,36 @@ impl Line {
         self.bytes.is_empty()
     }
 
-    pub(crate) fn is_full(&self) -> bool
-        ensures full { IsTrue result ↔ (length self.now ≡ 1024) }
-        ensures short { length self.now ≤ 1024 }
-    {
-        self.bytes.len() == Line::MOST
-    }
-
-    pub(crate) fn push(&mut self, byte: u8)
-        requires { length self.old < 1024 }
-        ensures { self.new ≡ self.old ++ byte ∷ [] }
-    {
-        self.bytes.push_reserved(byte);
-    }
-
     pub(crate) fn clear(&mut self)
         ensures { self.new ≡ [] }
     {
         self.bytes.clear();
+    }
+
+    /// Adds the bytes up to the next newline, of those that have a place, and tells what that came to, and how many of the
+    /// bytes were taken.
+    pub(crate) fn take_piece(&mut self, bytes: &[u8]) -> (Piece, usize)
+        ensures gives { GivesPiece result.0 self.old self.new (Some bytes.now)
+            (Some (drop result.1 bytes.now)) }
+        ensures whole { result.0 ≡ Piece.Part → result.1 ≡ length bytes.now }
+        ensures count { result.1 ≤ length bytes.now }
+    {
+        let room = Line::MOST - self.bytes.len();
+        let reach = bytes.len().min(room + 1);
+        match memchr(b'\n', &bytes[..reach]) {
+            Some(at) => {
+                push_all(&mut self.bytes, &bytes[..at]);
+                (Piece::Rest, at + 1)
+            }
+            None if reach > room => {
+                push_all(&mut self.bytes, &bytes[..room]);
+                (Piece::TooLong, reach)
+            }
+            None if reach == 0 => (Piece::End, 0),
+            None => {
+                push_all(&mut self.bytes, bytes);
+                (Piece::Part, reach)
+            }
+        }
     }
 }

@@ -1,16 +1,12 @@
-ghost use Rattle.std.specs.Prelude.{◌≡◌, ◌≤◌, [], ◌∷◌, IfOk, MatchOption, OnOk, OnErr};
-ghost use Rattle.std.specs.Io.KnownBytes.{prepend_known};
+ghost use Rattle.std.specs.Prelude.{◌≡◌, ◌≤◌, OnOk, OnErr};
 ghost use Rattle.casper_words.specs.Count.{FaultCountRose};
 ghost use Rattle.casper_io.specs.Lines.{IsShortLine, Takes};
-ghost use Rattle.casper_io.specs.Told.{WhereTold, AreBothEmpty};
+ghost use Rattle.casper_io.specs.Told.{WhereTold};
 
-use crate::{IoFault, Line, Source};
+use crate::{IoFault, Line, Piece, Source};
 
 /// The greatest number of lines of one input.
 pub const MOST_LINES: u32 = 1_048_576;
-
-/// The byte that ends a line.
-const NEWLINE: u8 = b'\n';
 
 /// What stood next in the source.
 #[derive(Clone, Copy, Debug, PartialEq, Eq)]
@@ -37,30 +33,13 @@ pub fn next_line<S: Source>(source: &mut S, line: &mut Line) -> Result<Next, IoF
 {
     line.clear();
     loop {
-        match read_byte(source)? {
-            None if line.is_empty() => return Ok(Next::End),
-            None | Some(NEWLINE) => return Ok(Next::Line),
-            Some(_) if line.is_full() => return Ok(Next::TooLong),
-            Some(byte) => line.push(byte),
+        match source.read_piece(line)? {
+            Piece::Part => {}
+            Piece::Rest => return Ok(Next::Line),
+            Piece::TooLong => return Ok(Next::TooLong),
+            Piece::End if line.is_empty() => return Ok(Next::End),
+            Piece::End => return Ok(Next::Line),
         }
-    }
-}
-
-/// Reads one byte; none where no byte is left.
-fn read_byte<S: Source>(source: &mut S) -> Result<Option<u8>, IoFault>
-    ensures taken { IfOk result (λ next. MatchOption next
-        (WhereTold (S.left source.old) (S.left source.new) AreBothEmpty)
-        (λ byte. S.left source.old ≡ prepend_known (byte ∷ []) (S.left source.new))) }
-    ensures kept { OnErr result (S.left source.new ≡ S.left source.old) }
-    ensures counted { OnErr result (FaultCountRose (S.faults source.old) (S.faults source.new)) }
-    ensures uncounted { OnOk result (S.faults source.new ≡ S.faults source.old) }
-    ensures never_falls { S.faults source.old ≤ S.faults source.new }
-{
-    let mut piece = [0u8];
-    if source.read(&mut piece)? == 0 {
-        Ok(None)
-    } else {
-        Ok(Some(piece[0]))
     }
 }
 
@@ -74,7 +53,7 @@ mod tests {
     fn first_lines(rt: HostRuntime) -> Result<(), Fail> {
         let long = [b'x'; 1025];
         let mut ended = [b'x'; 1025];
-        ended[1024] = NEWLINE;
+        ended[1024] = b'\n';
         let table = [
             (b"".as_slice(), Next::End, b"".as_slice()),
             (b"\n", Next::Line, b""),
@@ -94,8 +73,8 @@ mod tests {
     }
 
     #[test]
-    fn the_eighth_read_fails(rt: HostRuntime) -> Result<(), Fail> {
-        let mut source = MemSource::new(rt.alloc(), b"join 1\nserve 1", &[8])?;
+    fn the_second_read_fails(rt: HostRuntime) -> Result<(), Fail> {
+        let mut source = MemSource::new(rt.alloc(), b"join 1\nserve 1", &[2])?;
         let mut line = Line::new(rt.alloc())?;
         assert_eq!(rt; next_line(&mut source, &mut line), Ok(Next::Line));
         assert_eq!(rt; next_line(&mut source, &mut line), Err(IoFault::Failed));

@@ -1,10 +1,10 @@
-ghost use Rattle.std.specs.Prelude.{◌≡◌, ◌↔◌, ℕ, ◌<◌, ◌≤◌, List, [], Option, Some, Bool, length, take, drop, min, is_err, IfOk, OnOk, OnErr, IfSome};
-ghost use Rattle.std.specs.Io.KnownBytes.{prepend_known};
+ghost use Rattle.std.specs.Prelude.{◌≡◌, ◌≤◌, [], Some, is_err, IfOk, OnOk, OnErr};
 ghost use Rattle.casper_words.specs.Count.{FaultCountRose};
 ghost use Rattle.casper_io.specs.Memory.{fails_next, after_call, after_fault};
+ghost use Rattle.casper_io.specs.Piece.{GivesPiece};
 
 use crate::failing::FailingCalls;
-use crate::{IoFault, Source};
+use crate::{IoFault, Line, Piece, Source};
 use casper_words::Memory;
 use std::alloc::Global;
 use std::marker::Model;
@@ -51,19 +51,16 @@ impl Source for MemSource {
 
     ghost faults = { λ source. source.failing.faults };
 
-    /// Fails exactly where this call is one of those that are to fail, and else moves as many bytes as there are and the
-    /// piece has room for.
-    fn read(&mut self, into: &mut [u8]) -> Result<usize, IoFault>
+    /// Fails exactly where this call is one of those that are to fail. A line goes on after it only where no byte is left.
+    fn read_piece(&mut self, line: &mut Line) -> Result<Piece, IoFault>
         ensures fails { is_err result ≡ fails_next self.old.failing }
-        ensures most { IfOk result (λ count. count ≡ min (length into.new) (length self.old.left)) }
+        ensures whole { IfOk result (λ piece. piece ≡ Piece.Part → self.new.left ≡ []) }
         ensures ok { OnOk result (self.new.failing ≡ after_call self.old.failing) }
         ensures err { OnErr result (self.new.failing ≡ after_fault self.old.failing) }
-        ensures count { IfOk result (λ count. count ≤ length into.new) }
-        ensures moved { IfOk result (λ count. Some self.old.left
-            ≡ prepend_known (take count into.new) (Some self.new.left)) }
-        ensures end { IfOk result (λ count. 0 < length into.new →
-            IfSome (Some self.old.left) (λ bytes. (count ≡ 0) ↔ (bytes ≡ []))) }
+        ensures gives { IfOk result (λ piece.
+            GivesPiece piece line.old line.new (Some self.old.left) (Some self.new.left)) }
         ensures kept { OnErr result (Some self.new.left ≡ Some self.old.left) }
+        ensures line_kept { OnErr result (line.new ≡ line.old) }
         ensures counted { OnErr result
             (FaultCountRose self.old.failing.faults self.new.failing.faults) }
         ensures uncounted { OnOk result (self.new.failing.faults ≡ self.old.failing.faults) }
@@ -73,10 +70,8 @@ impl Source for MemSource {
             return Err(self.failing.count_fault());
         }
         self.failing.count_call();
-        let rest = &self.bytes[self.at..];
-        let count = rest.len().min(into.len());
-        into[..count].copy_from_slice(&rest[..count]);
+        let (piece, count) = line.take_piece(&self.bytes[self.at..]);
         self.at += count;
-        Ok(count)
+        Ok(piece)
     }
 }

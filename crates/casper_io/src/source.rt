@@ -1,10 +1,10 @@
-ghost use Rattle.std.specs.Prelude.{◌≡◌, ℕ, List, [], Option, ◌<◌, ◌≤◌, ◌↔◌, length, take, IfOk, IfSome, OnOk, OnErr};
-ghost use Rattle.std.specs.Io.KnownBytes.{prepend_known};
+ghost use Rattle.std.specs.Prelude.{◌≡◌, ℕ, List, Option, ◌≤◌, IfOk, OnOk, OnErr};
 ghost use Rattle.casper_words.specs.Count.{FaultCountRose};
+ghost use Rattle.casper_io.specs.Piece.{GivesPiece};
 
-use crate::IoFault;
+use crate::{IoFault, Line, Piece};
 
-/// Where bytes come from: a file, a terminal, another program, or memory.
+/// Where lines come from: a file, a terminal, another program, or memory.
 ///
 /// A source may tell which bytes it has left, or tell nothing; no call changes whether it tells. It counts
 /// the reads that failed, up to `u64::MAX`.
@@ -15,15 +15,14 @@ pub trait Source {
     // How many reads failed.
     ghost faults: { Self → ℕ };
 
-    /// Moves the next bytes into the front of the piece, and answers how many. Zero for a piece that is not empty
-    /// means that no byte is left. Where the read fails, the bytes left stay. The count of failed reads rises then alone.
-    fn read(&mut self, into: &mut [u8]) -> Result<usize, IoFault>
-        ensures count { IfOk result (λ count. count ≤ length into.new) }
-        ensures moved { IfOk result (λ count. left self.old
-            ≡ prepend_known (take count into.new) (left self.new)) }
-        ensures end { IfOk result (λ count. 0 < length into.new →
-            IfSome (left self.old) (λ bytes. (count ≡ 0) ↔ (bytes ≡ []))) }
+    /// Adds the next bytes to the line, as many as are at hand, up to the next newline, which is taken and not added. No
+    /// byte after it is taken, nor more than one that the line has no room for. Where the read fails, the line and the bytes
+    /// left stay. The count of failed reads rises then alone. It takes no memory.
+    fn read_piece(&mut self, line: &mut Line) -> Result<Piece, IoFault>
+        ensures gives { IfOk result (λ piece.
+            GivesPiece piece line.old line.new (left self.old) (left self.new)) }
         ensures kept { OnErr result (left self.new ≡ left self.old) }
+        ensures line_kept { OnErr result (line.new ≡ line.old) }
         ensures counted { OnErr result (FaultCountRose (faults self.old) (faults self.new)) }
         ensures uncounted { OnOk result (faults self.new ≡ faults self.old) }
         ensures never_falls { faults self.old ≤ faults self.new };

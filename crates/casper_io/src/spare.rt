@@ -4,9 +4,9 @@ ghost use Rattle.std.specs.Prelude.{◌≡◌, ◌+◌, ◌≤◌, ◌++◌, len
 pub(crate) fn push_all(list: &mut Vec<u8>, bytes: &[u8])
     requires { vec_len list.old + length bytes.now ≤ vec_capacity list.old }
     ensures items { list.new.items ≡ list.old.items ++ bytes.now }
-    ensures capacity { vec_capacity list.new ≡ vec_capacity list.old }
+    ensures capacity { vec_capacity list.old ≤ vec_capacity list.new }
 {
-    for byte in bytes {
-        list.push_reserved(*byte);
+    if list.extend_from_slice(bytes).is_err() {
+        unreachable!()
     }
 }

@@ -1,10 +1,10 @@
 ghost use Rattle.std.specs.Prelude.{◌≡◌, ℕ, List, Option, None, IfOk};
 
-use crate::again::read_again;
-use crate::{IoFault, Source};
+use crate::again::fill_again;
+use crate::{IoFault, Line, Piece, Source};
 use casper_words::Memory;
 use std::alloc::Global;
-use std::io::{BufReader, Read};
+use std::io::{BufRead, BufReader, Read};
 use std::marker::Model;
 
 /// A source over a reader of the system, with a buffer. It tells nothing of its bytes. Contracts see the count of the reads
@@ -40,9 +40,13 @@ impl<R: Read> Source for StdSource<R> {
 
     ghost faults = { λ faults. faults };
 
-    fn read(&mut self, into: &mut [u8]) -> Result<usize, IoFault> {
-        match read_again(&mut self.reader, into) {
-            Ok(count) => Ok(count),
+    fn read_piece(&mut self, line: &mut Line) -> Result<Piece, IoFault> {
+        match fill_again(&mut self.reader) {
+            Ok(()) => {
+                let (piece, count) = line.take_piece(self.reader.buffer());
+                self.reader.consume(count);
+                Ok(piece)
+            }
             Err(_error) => {
                 self.faults = self.faults.saturating_add(1);
                 Err(IoFault::Failed)

@@ -21,6 +21,11 @@ word_line word number = joined (word ∷ codes " " ∷ decimal number ∷ codes 
 abbrev pub pair_line : List ℕ → ℕ → ℕ → List ℕ
 pair_line word first second = joined (word ∷ codes " " ∷ decimal first ∷ codes " " ∷ decimal second ∷ codes "\n" ∷ [])
 
+-- the mark of a rollback, and what it dropped of a client, as a line
+abbrev pub rolled_back_line : ℕ → ℕ → ℕ → List ℕ
+rolled_back_line mark recorded unrecorded =
+    joined (codes "rolledback " ∷ decimal mark ∷ codes " " ∷ decimal recorded ∷ codes " " ∷ decimal unrecorded ∷ codes "\n" ∷ [])
+
 -- the frames that a commit needs and those that are free, after a word, as a line
 abbrev pub frames_line : List ℕ → ℕ → ℕ → List ℕ
 frames_line word need free = joined (word ∷ codes " need " ∷ decimal need ∷ codes " free " ∷ decimal free ∷ codes "\n" ∷ [])
@@ -41,8 +46,7 @@ answer_line answer.Granted = as_line (codes "granted")
 answer_line (answer.Pending blockers) = crew_line (codes "pending") blockers
 answer_line (answer.Frozen lead) = word_line (codes "frozen") lead
 answer_line answer.InDoubt = as_line (codes "indoubt")
-answer_line (answer.RolledBack mark recorded unrecorded) =
-    joined (codes "rolledback " ∷ decimal mark ∷ codes " " ∷ decimal recorded ∷ codes " " ∷ decimal unrecorded ∷ codes "\n" ∷ [])
+answer_line (answer.RolledBack mark recorded unrecorded) = rolled_back_line mark recorded unrecorded
 answer_line (answer.TrailFull entries) = word_line (codes "trailfull") entries
 answer_line answer.Disk = as_line (codes "disk")
 answer_line (answer.Gathering awaited) = crew_line (codes "gathering") awaited

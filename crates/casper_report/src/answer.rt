@@ -1,117 +1,175 @@
-ghost use Rattle.std.specs.Prelude.{◌≡◌, ◌≤◌, [], ◌∷◌, ◌++◌, if◌then◌else◌, IfOk, OnOk, string_bytes};
+ghost use Rattle.std.specs.Prelude.{◌≡◌, ◌≤◌, [], ◌∷◌, ◌++◌, if◌then◌else◌, OnOk};
 ghost use Rattle.std.specs.Fmt.{decimal};
 ghost use Rattle.casper_words.specs.Crew.{has_member, IsCrew};
-ghost use Rattle.casper_report.specs.Texts.{answer_line, word_line, pair_line, frames_line, crew_line};
+ghost use Rattle.casper_report.specs.Texts.{answer_line, as_line, word_line, pair_line, rolled_back_line, frames_line, crew_line};
 
 use casper_space::Answer;
 use casper_words::{Crew, Memory, Who};
-use std::alloc::{AllocError, Global};
-use std::fmt::Write;
+use itoa::Buffer;
 
-/// The line that answers an event, with its newline.
-pub fn answer_text(alloc: Global, answer: &Answer) -> Result<Vec<u8>, Memory>
-    ensures { IfOk result (λ text. text.items ≡ answer_line answer.now) }
+/// Puts the line that answers an event, with its newline, into the place of what the text had. Memory is asked for only
+/// where the text has no room for the line. Where it is short, the text is of no use.
+pub fn set_answer_text(text: &mut Vec<u8>, answer: &Answer) -> Result<(), Memory>
+    ensures { OnOk result (text.new.items ≡ answer_line answer.now) }
 {
-    let text = match answer {
-        Answer::Joined => plain_text(alloc, "joined\n"),
-        Answer::Busy => plain_text(alloc, "busy\n"),
-        Answer::Absent => plain_text(alloc, "absent\n"),
-        Answer::Range => plain_text(alloc, "range\n"),
-        Answer::Value(value) => format!(in alloc; "{value}\n"),
-        Answer::Ok => plain_text(alloc, "ok\n"),
-        Answer::Granted => plain_text(alloc, "granted\n"),
-        Answer::Pending(blockers) => crew_text(alloc, "pending", *blockers),
-        Answer::Frozen(lead) => word_text(alloc, "frozen", u64::from(lead.number())),
-        Answer::InDoubt => plain_text(alloc, "indoubt\n"),
+    match answer {
+        Answer::Joined => set_text(text, b"joined\n"),
+        Answer::Busy => set_text(text, b"busy\n"),
+        Answer::Absent => set_text(text, b"absent\n"),
+        Answer::Range => set_text(text, b"range\n"),
+        Answer::Value(value) => set_number(text, *value),
+        Answer::Ok => set_text(text, b"ok\n"),
+        Answer::Granted => set_text(text, b"granted\n"),
+        Answer::Pending(blockers) => set_crew(text, b"pending", *blockers),
+        Answer::Frozen(lead) => set_word(text, b"frozen", u64::from(lead.number())),
+        Answer::InDoubt => set_text(text, b"indoubt\n"),
         Answer::RolledBack {
             mark,
             recorded,
             unrecorded,
-        } => format!(in alloc; "rolledback {mark} {recorded} {unrecorded}\n"),
-        Answer::TrailFull(entries) => word_text(alloc, "trailfull", u64::from(*entries)),
-        Answer::Disk => plain_text(alloc, "disk\n"),
-        Answer::Gathering(awaited) => crew_text(alloc, "gathering", *awaited),
-        Answer::Sealed(pages) => word_text(alloc, "sealed", u64::from(*pages)),
-        Answer::Doing(lead) => word_text(alloc, "doing", u64::from(lead.number())),
-        Answer::Doubtful(lead) => word_text(alloc, "doubt", u64::from(lead.number())),
-        Answer::Commit(mark) => word_text(alloc, "commit", *mark),
-        Answer::FailedFull { need, free } => frames_text(alloc, "failed full", *need, *free),
-        Answer::FailedWorn => plain_text(alloc, "failed worn\n"),
-        Answer::FailedDisk { doubt: true } => plain_text(alloc, "failed disk in doubt\n"),
-        Answer::FailedDisk { doubt: false } => plain_text(alloc, "failed disk\n"),
-        Answer::Written(version) => word_text(alloc, "written", *version),
-        Answer::Full { need, free } => frames_text(alloc, "full", *need, *free),
-        Answer::Worn => plain_text(alloc, "worn\n"),
-        Answer::Doubt => plain_text(alloc, "doubt\n"),
-        Answer::NoJob => plain_text(alloc, "nojob\n"),
-        Answer::Vault(lead) => word_text(alloc, "vault", u64::from(lead.number())),
-        Answer::Undone(mark) => word_text(alloc, "undone", *mark),
-        Answer::Nothing => plain_text(alloc, "nothing\n"),
-        Answer::Left => plain_text(alloc, "left\n"),
-        Answer::VanishLost { mark, unrecorded } => pair_text(alloc, "lost", *mark, *unrecorded),
+        } => set_rolled_back(text, *mark, *recorded, *unrecorded),
+        Answer::TrailFull(entries) => set_word(text, b"trailfull", u64::from(*entries)),
+        Answer::Disk => set_text(text, b"disk\n"),
+        Answer::Gathering(awaited) => set_crew(text, b"gathering", *awaited),
+        Answer::Sealed(pages) => set_word(text, b"sealed", u64::from(*pages)),
+        Answer::Doing(lead) => set_word(text, b"doing", u64::from(lead.number())),
+        Answer::Doubtful(lead) => set_word(text, b"doubt", u64::from(lead.number())),
+        Answer::Commit(mark) => set_word(text, b"commit", *mark),
+        Answer::FailedFull { need, free } => set_frames(text, b"failed full", *need, *free),
+        Answer::FailedWorn => set_text(text, b"failed worn\n"),
+        Answer::FailedDisk { doubt: true } => set_text(text, b"failed disk in doubt\n"),
+        Answer::FailedDisk { doubt: false } => set_text(text, b"failed disk\n"),
+        Answer::Written(version) => set_word(text, b"written", *version),
+        Answer::Full { need, free } => set_frames(text, b"full", *need, *free),
+        Answer::Worn => set_text(text, b"worn\n"),
+        Answer::Doubt => set_text(text, b"doubt\n"),
+        Answer::NoJob => set_text(text, b"nojob\n"),
+        Answer::Vault(lead) => set_word(text, b"vault", u64::from(lead.number())),
+        Answer::Undone(mark) => set_word(text, b"undone", *mark),
+        Answer::Nothing => set_text(text, b"nothing\n"),
+        Answer::Left => set_text(text, b"left\n"),
+        Answer::VanishLost { mark, unrecorded } => set_pair(text, b"lost", *mark, *unrecorded),
         Answer::VanishNoted { lead, unrecorded } => {
-            pair_text(alloc, "noted", u64::from(lead.number()), *unrecorded)
+            set_pair(text, b"noted", u64::from(lead.number()), *unrecorded)
         }
-        Answer::LoseLost(mark) => word_text(alloc, "lost", *mark),
-        Answer::LoseNoted(lead) => word_text(alloc, "noted", u64::from(lead.number())),
-        Answer::Already(mark) => word_text(alloc, "already", *mark),
-        Answer::Reopened(version) => word_text(alloc, "reopened", *version),
-    };
-    Ok(text?.into_bytes())
-}
-
-fn plain_text(alloc: Global, line: &str) -> Result<String, AllocError>
-    ensures { IfOk result (λ text. string_bytes text ≡ line.now) }
-{
-    String::from_str(alloc, line)
-}
-
-/// A word and a number.
-fn word_text(alloc: Global, word: &str, number: u64) -> Result<String, AllocError>
-    ensures { IfOk result (λ text. string_bytes text ≡ word_line word.now number) }
-{
-    format!(in alloc; "{word} {number}\n")
-}
-
-/// A word and two numbers.
-fn pair_text(alloc: Global, word: &str, first: u64, second: u32) -> Result<String, AllocError>
-    ensures { IfOk result (λ text. string_bytes text ≡ pair_line word.now first second) }
-{
-    format!(in alloc; "{word} {first} {second}\n")
-}
-
-/// A word, and the frames that a commit needs and those that are free.
-fn frames_text(alloc: Global, word: &str, need: u32, free: u32) -> Result<String, AllocError>
-    ensures { IfOk result (λ text. string_bytes text ≡ frames_line word.now need free) }
-{
-    format!(in alloc; "{word} need {need} free {free}\n")
-}
-
-/// A word and clients, rising.
-fn crew_text(alloc: Global, word: &str, crew: Crew) -> Result<String, AllocError>
-    ensures { IfOk result (λ text. string_bytes text ≡ crew_line word.now crew) }
-{
-    let mut text = String::from_str(alloc, word)?;
-    for below in 0..Who::MOST {
-        push_member(&mut text, crew, below + 1)?;
+        Answer::LoseLost(mark) => set_word(text, b"lost", *mark),
+        Answer::LoseNoted(lead) => set_word(text, b"noted", u64::from(lead.number())),
+        Answer::Already(mark) => set_word(text, b"already", *mark),
+        Answer::Reopened(version) => set_word(text, b"reopened", *version),
     }
-    text.push_str("\n")?;
-    Ok(text)
+}
+
+/// Adds bytes to a text.
+fn push_text(text: &mut Vec<u8>, bytes: &[u8]) -> Result<(), Memory>
+    ensures { OnOk result (text.new.items ≡ text.old.items ++ bytes.now) }
+{
+    text.extend_from_slice(bytes)?;
+    Ok(())
+}
+
+/// Adds a number to a text.
+fn push_number(text: &mut Vec<u8>, number: u64) -> Result<(), Memory>
+    ensures { OnOk result (text.new.items ≡ text.old.items ++ decimal number) }
+{
+    let mut digits = Buffer::new();
+    push_text(text, digits.format(number).as_bytes())
+}
+
+/// Makes a text these bytes.
+fn set_text(text: &mut Vec<u8>, bytes: &[u8]) -> Result<(), Memory>
+    ensures { OnOk result (text.new.items ≡ bytes.now) }
+{
+    text.clear();
+    push_text(text, bytes)
+}
+
+/// A number, as a line.
+fn set_number(text: &mut Vec<u8>, number: u64) -> Result<(), Memory>
+    ensures { OnOk result (text.new.items ≡ as_line (decimal number)) }
+{
+    text.clear();
+    push_number(text, number)?;
+    push_text(text, b"\n")
+}
+
+/// A word and a number, as a line.
+fn set_word(text: &mut Vec<u8>, word: &[u8], number: u64) -> Result<(), Memory>
+    ensures { OnOk result (text.new.items ≡ word_line word.now number) }
+{
+    set_text(text, word)?;
+    push_text(text, b" ")?;
+    push_number(text, number)?;
+    push_text(text, b"\n")
+}
+
+/// A word and two numbers, as a line.
+fn set_pair(text: &mut Vec<u8>, word: &[u8], first: u64, second: u32) -> Result<(), Memory>
+    ensures { OnOk result (text.new.items ≡ pair_line word.now first second) }
+{
+    set_text(text, word)?;
+    push_text(text, b" ")?;
+    push_number(text, first)?;
+    push_text(text, b" ")?;
+    push_number(text, u64::from(second))?;
+    push_text(text, b"\n")
+}
+
+/// The mark of a rollback, and what it dropped of a client, as a line.
+fn set_rolled_back(
+    text: &mut Vec<u8>,
+    mark: u64,
+    recorded: u32,
+    unrecorded: u32,
+) -> Result<(), Memory>
+    ensures { OnOk result (text.new.items ≡ rolled_back_line mark recorded unrecorded) }
+{
+    set_text(text, b"rolledback ")?;
+    push_number(text, mark)?;
+    push_text(text, b" ")?;
+    push_number(text, u64::from(recorded))?;
+    push_text(text, b" ")?;
+    push_number(text, u64::from(unrecorded))?;
+    push_text(text, b"\n")
+}
+
+/// A word, and the frames that a commit needs and those that are free, as a line.
+fn set_frames(text: &mut Vec<u8>, word: &[u8], need: u32, free: u32) -> Result<(), Memory>
+    ensures { OnOk result (text.new.items ≡ frames_line word.now need free) }
+{
+    set_text(text, word)?;
+    push_text(text, b" need ")?;
+    push_number(text, u64::from(need))?;
+    push_text(text, b" free ")?;
+    push_number(text, u64::from(free))?;
+    push_text(text, b"\n")
+}
+
+/// A word and clients, rising, as a line.
+fn set_crew(text: &mut Vec<u8>, word: &[u8], crew: Crew) -> Result<(), Memory>
+    ensures { OnOk result (text.new.items ≡ crew_line word.now crew) }
+{
+    set_text(text, word)?;
+    for below in 0..Who::MOST {
+        push_member(text, crew, below + 1)?;
+    }
+    push_text(text, b"\n")?;
+    Ok(())
 }
 
 /// Adds a client, where it is a member.
-fn push_member(text: &mut String, crew: Crew, number: u32) -> Result<(), AllocError>
+fn push_member(text: &mut Vec<u8>, crew: Crew, number: u32) -> Result<(), Memory>
     requires least { 1 ≤ number }
     requires most { number ≤ 32 }
-    ensures text { OnOk result (string_bytes text.new
-        ≡ string_bytes text.old ++ (if has_member number crew then 32 ∷ decimal number else [])) }
+    ensures text { OnOk result (text.new.items
+        ≡ text.old.items ++ (if has_member number crew then 32 ∷ decimal number else [])) }
     ensures crew { IsCrew crew }
 {
     let Some(who) = Who::new(number) else {
         unreachable!()
     };
     if crew.has(who) {
-        write!(text, " {number}")?;
+        push_text(text, b" ")?;
+        push_number(text, u64::from(number))?;
     }
     Ok(())
 }
@@ -191,8 +249,10 @@ mod tests {
             (Answer::Reopened(2), b"reopened 2\n"),
             (Answer::Pending(Crew::none()), b"pending\n"),
         ];
+        let mut text = Vec::new(rt.alloc());
         for (answer, want) in table {
-            assert_eq!(rt; answer_text(rt.alloc(), &answer)?.as_slice(), want);
+            set_answer_text(&mut text, &answer)?;
+            assert_eq!(rt; text.as_slice(), want);
         }
         Ok(())
     }

@@ -120,17 +120,18 @@ fn lines(rt: HostRuntime) -> Result<(), Fail> {
     Ok(())
 }
 
-/// The source fails at each byte of the row and at its end.
+/// The source fails at each line of the row, at its end, and in the middle of a line.
 #[test]
 fn each_read_fails(rt: HostRuntime) -> Result<(), Fail> {
-    for at in 1..=34 {
-        let answered: &[u8] = match at {
-            1..=7 => b"read fault\n",
-            8..=22 => b"joined\nread fault\n",
-            23..=33 => b"joined\nok\nread fault\n",
-            _ => b"joined\nok\n17\nread fault\n",
-        };
-        let (status, written) = replayed(rt.alloc(), "replay mem:8", ROW, &[at], &[])?;
+    let table: [(&[u8], u64, &[u8]); 5] = [
+        (ROW, 1, b"read fault\n"),
+        (ROW, 2, b"joined\nread fault\n"),
+        (ROW, 3, b"joined\nok\nread fault\n"),
+        (ROW, 4, b"joined\nok\n17\nread fault\n"),
+        (b"join 1\nread 1", 3, b"joined\nread fault\n"),
+    ];
+    for (input, at, answered) in table {
+        let (status, written) = replayed(rt.alloc(), "replay mem:8", input, &[at], &[])?;
         assert_eq!(rt; status, 3, "at {at}");
         assert_eq!(rt; written.as_slice(), answered, "at {at}");
     }

@@ -2,11 +2,10 @@ use Rattle.std.proofs.Common.{zero, suc, ◌≡◌, ◌≢◌, ℕ, ◌^◌, ◌
 use Rattle.std.specs.Char.{is_ascii_digit}
 use Rattle.std.specs.Int.{is_in_range}
 use Rattle.std.specs.Result.{result_ok, OkIff}
-use Rattle.std.specs.Str.{all_ascii_digits, IsUtf8}
-use Rattle.std.specs.Str.Parse.{digits_value, ParsesUnsigned}
-use Rattle.std.proofs.lemmas.Str.{IsUtf8-from_ascii}
-use Rattle.std.proofs.lemmas.Str.Parse.{IsNumeralModel, numerals_by_value, tells_all_ascii_digits, parse_plain}
-use Rattle.std.proofs.lemmas.Fmt.{IsAscii-from_digits, digits_decimal, digits_value-decimal, decimal_digit, decimal_nonempty, first_decimal, decimal-digits_value}
+use Rattle.std.specs.Str.{all_ascii_digits}
+use Rattle.std.specs.Str.Parse.{digits_value}
+use Rattle.std.proofs.lemmas.Str.Parse.{IsNumeralModel, numerals_by_value, tells_all_ascii_digits}
+use Rattle.std.proofs.lemmas.Fmt.{digits_decimal, digits_value-decimal, decimal_digit, decimal_nonempty, first_decimal, decimal-digits_value}
 use Rattle.std.proofs.lemmas.Bool.{and_parts, and_from}
 use Rattle.std.proofs.lemmas.Bool.Decides.{nat_tests}
 use Rattle.casper_text.specs.Number.{begins_as_number, is_numeral, number_below, number_of}
@@ -53,7 +52,7 @@ begins-from (first ∷ rest) digits filled no_zero =
     let range = first_digit (first ∷ rest) digits filled in
     begun first (length rest) range.0 range.1 (λ zero. omega (arith, no_zero zero))
 
-numeral_parts : (word : List ℕ) → is_numeral word ≡ true → (begins_as_number word ≡ true) × (all_ascii_digits word ≡ true)
+pub numeral_parts : (word : List ℕ) → is_numeral word ≡ true → (begins_as_number word ≡ true) × (all_ascii_digits word ≡ true)
 numeral_parts word numeral = and_parts (begins_as_number word) (all_ascii_digits word) numeral
 
 -- a choice between a value and none, where the test fails
@@ -91,26 +90,10 @@ number_below-parts limit word n gives =
     let parts = and_parts (is_numeral word) (ltb (digits_value 10 word) limit) both.0 in
     (parts.0, ltb-true _ _ parts.1, both.1)
 
--- what `parse` answers is the number
-pub number_from_parse : {E : Type 0} (word : List ℕ) (r : Result ℕ E) → begins_as_number word ≡ true → ParsesUnsigned 64 10 word r → result_ok r ≡ number_of word
-number_from_parse {E} word (Ok n) begins parses =
-    let is = IsBegun-from_test word begins in
-    let ok = parse_plain digits_model {E = E} 64 word (Ok n) parses is.unsigned in
-    ap Some ok.1 ∙ sym (number_below-some (2 ^ 64) word (and_from _ _ begins ok.0.0) ok.0.2)
-number_from_parse {E} word (Err e) begins parses =
-    let is = IsBegun-from_test word begins in
-    let fails = parse_plain digits_model {E = E} 64 word (Err e) parses is.unsigned in
-    sym (number_below-none (2 ^ 64) word (λ numeral below. fails ((numeral_parts word numeral).1, is.filled, below)))
-
 -- a word that does not begin as a number writes none
 pub number_of-not_begun : (word : List ℕ) → begins_as_number word ≡ false → number_of word ≡ None
 number_of-not_begun word begins =
     number_below-none (2 ^ 64) word (λ numeral below. let yes = (numeral_parts word numeral).0 in absurd cc)
-
--- a word that is no text writes none
-pub number_of-no_text : (word : List ℕ) → (IsUtf8 word → ⊥) → number_of word ≡ None
-number_of-no_text word no_text =
-    number_below-none (2 ^ 64) word (λ numeral below. no_text (IsUtf8-from_ascii word (IsAscii-from_digits word (digits_model.to word (numeral_parts word numeral).1))))
 
 -- the number below a smaller limit
 pub number_below-less : (limit : ℕ) (word : List ℕ) (n : ℕ) → limit ≤ 2 ^ 64 → number_of word ≡ Some n → n < limit → number_below limit word ≡ Some n

@@ -10,7 +10,7 @@ mod span;
 mod word;
 
 pub use laws::{line_laws, name_laws, number_laws, reference_laws};
-pub use lines::words_of;
+pub use lines::{words_into, words_of};
 pub use names::name;
 pub use numbers::{number, small_number};
 pub use references::reference;

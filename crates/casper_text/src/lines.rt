@@ -1,4 +1,4 @@
-ghost use Rattle.std.specs.Prelude.{◌≡◌, ◌++◌, ◌^◌, ◌<◌, ◌↔◌, length, map, All, Any, IfOk, OnErr, OnOk, IsSome, IsNone, IfSome, is_some};
+ghost use Rattle.std.specs.Prelude.{◌≡◌, ◌++◌, ◌↔◌, map, All, Any, IfOk, OnErr, OnOk, IsSome, IsNone, IfSome, IsTrue, IsFalse, is_some};
 ghost use Rattle.casper_text.specs.Line.{IsPrintable, all_printable, words};
 ghost use Rattle.casper_text.specs.Span.{IsWithin, word_at, spans_between};
 
@@ -6,11 +6,31 @@ use crate::Span;
 use casper_words::Memory;
 use std::alloc::Global;
 
-/// The words of a line, in order, by their places. Words are parted by one or more spaces, and
-/// spaces at either end are allowed. None where a byte is outside 0x20 to 0x7E, which is told without
-/// memory. Memory is asked for the list of the places alone.
+/// Puts the places of the words of a line into a list, in order, in the place of what it had, and tells whether each byte of
+/// the line is from 0x20 to 0x7E. Words are parted by one or more spaces, and spaces at either end are allowed. Where a byte
+/// is outside that range no memory is asked for and the list is of no use. Memory is asked for only where the list has no
+/// room for the places.
+pub fn words_into(line: &[u8], spans: &mut Vec<Span>) -> Result<bool, Memory>
+    ensures exactly { IfOk result (λ found. IsTrue found ↔ All IsPrintable line.now) }
+    ensures refused { IfOk result
+        (λ found. IsFalse found ↔ Any (λ byte. ¬ (IsPrintable byte)) line.now) }
+    ensures printable { IfOk result (λ found. found ≡ all_printable line.now) }
+    ensures words { IfOk result
+        (λ found. IsTrue found → map (word_at line.now) spans.new.items ≡ words line.now) }
+    ensures within { IfOk result
+        (λ found. IsTrue found → All (IsWithin line.now) spans.new.items) }
+    ensures memory { OnErr result (All IsPrintable line.now) }
+{
+    if !is_printable(line) {
+        return Ok(false);
+    }
+    place_words(line, spans)?;
+    Ok(true)
+}
+
+/// The places of the words of a line, in order, as `words_into` puts them into a list. None where a byte is outside 0x20 to
+/// 0x7E.
 pub fn words_of(alloc: Global, line: &[u8]) -> Result<Option<Vec<Span>>, Memory>
-    requires { length line.now < 2 ^ 32 }
     ensures exactly { IfOk result (λ found. IsSome found ↔ All IsPrintable line.now) }
     ensures refused { IfOk result
         (λ found. IsNone found ↔ Any (λ byte. ¬ (IsPrintable byte)) line.now) }
@@ -21,11 +41,12 @@ pub fn words_of(alloc: Global, line: &[u8]) -> Result<Option<Vec<Span>>, Memory>
         (λ found. IfSome found (λ spans. All (IsWithin line.now) spans.items)) }
     ensures memory { OnErr result (All IsPrintable line.now) }
 {
-    if !is_printable(line) {
-        return Ok(None);
+    let mut spans = Vec::new(alloc);
+    if words_into(line, &mut spans)? {
+        Ok(Some(spans))
+    } else {
+        Ok(None)
     }
-    let spans = spans_of(alloc, line)?;
-    Ok(Some(spans))
 }
 
 /// Tells whether each byte is from 0x20 to 0x7E.
@@ -35,34 +56,29 @@ fn is_printable(line: &[u8]) -> bool
     line.iter().all(|byte| (b' '..=b'~').contains(byte))
 }
 
-/// The places of the words of a line, whatever its bytes.
-fn spans_of(alloc: Global, line: &[u8]) -> Result<Vec<Span>, Memory>
-    requires { length line.now < 2 ^ 32 }
-    ensures words { IfOk result (λ spans. map (word_at line.now) spans.items ≡ words line.now) }
-    ensures within { IfOk result (λ spans. All (IsWithin line.now) spans.items) }
+/// Puts the places of the words of a line into a list, whatever its bytes.
+fn place_words(line: &[u8], spans: &mut Vec<Span>) -> Result<(), Memory>
+    ensures words { OnOk result (map (word_at line.now) spans.new.items ≡ words line.now) }
+    ensures within { OnOk result (All (IsWithin line.now) spans.new.items) }
 {
-    let mut spans = Vec::new(alloc);
+    spans.clear();
     let mut from = 0;
     for (at, byte) in line.iter().enumerate() {
         if *byte == b' ' {
-            push_between(&mut spans, from, at)?;
+            push_between(spans, from, at)?;
             from = at + 1;
         }
     }
-    push_between(&mut spans, from, line.len())?;
-    Ok(spans)
+    push_between(spans, from, line.len())?;
+    Ok(())
 }
 
 /// Adds the place from one byte up to another, if it holds a byte.
 fn push_between(spans: &mut Vec<Span>, from: usize, to: usize) -> Result<(), Memory>
-    requires { to < 2 ^ 32 }
     ensures { OnOk result (spans.new.items ≡ spans.old.items ++ spans_between from to) }
 {
     if from < to {
-        spans.push(Span {
-            from: from as u32,
-            to: to as u32,
-        })?;
+        spans.push(Span { from, to })?;
     }
     Ok(())
 }

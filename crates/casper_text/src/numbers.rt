@@ -1,4 +1,5 @@
-ghost use Rattle.std.specs.Prelude.{◌≡◌, ◌^◌};
+ghost use Rattle.std.specs.Prelude.{◌≡◌, ◌+◌, ◌-◌, ◌*◌, ◌^◌, ◌≤◌, true, MatchOption};
+ghost use Rattle.std.specs.Char.{is_ascii_digit};
 ghost use Rattle.casper_text.specs.Number.{begins_as_number, number_below, number_of};
 
 /// The number that a word writes: decimal digits without a sign and without leading zeros, except
@@ -10,7 +11,23 @@ pub fn number(word: &[u8]) -> Option<u64>
     if !begins_as_number(word) {
         return None;
     }
-    str::from_utf8(word).ok()?.parse().ok()
+    let mut value = 0;
+    for byte in word {
+        value = with_digit(value, *byte)?;
+    }
+    Some(value)
+}
+
+/// The number with one digit more. None where the byte is no digit, or the number would be 2^64 or more.
+fn with_digit(value: u64, byte: u8) -> Option<u64>
+    ensures { MatchOption result
+        (is_ascii_digit byte ≡ true → 2 ^ 64 ≤ value * 10 + (byte - 48))
+        (λ more. (is_ascii_digit byte ≡ true) × (more ≡ value * 10 + (byte - 48))) }
+{
+    if !byte.is_ascii_digit() {
+        return None;
+    }
+    value.checked_mul(10)?.checked_add(u64::from(byte - b'0'))
 }
 
 /// The number below 2^32 that a word writes, as `number` reads it. It takes no memory.

@@ -4,8 +4,8 @@ ghost use Rattle.casper_text.specs.Span.{IsWithin, word_at};
 /// The place of a word in a line: from the byte `from` up to the byte `to`, which is not part of it.
 #[derive(Clone, Copy, Debug, PartialEq, Eq)]
 pub struct Span {
-    pub from: u32,
-    pub to: u32,
+    pub from: usize,
+    pub to: usize,
 }
 
 impl Span {
@@ -14,6 +14,6 @@ impl Span {
         requires { IsWithin line.now self.now }
         ensures { result.now ≡ word_at line.now self.now }
     {
-        &line[self.from as usize..self.to as usize]
+        &line[self.from..self.to]
     }
 }

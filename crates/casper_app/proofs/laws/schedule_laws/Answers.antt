@@ -1,5 +1,5 @@
 use Rattle.casper_app.proofs.GrammarLemmas.{events_are_read_back, events_have_one_text}
-use Rattle.casper_app.proofs.LineLawLemmas.{lines_are_sorted, replays_have_one_text}
+use Rattle.casper_app.proofs.LineLawLemmas.{lines_are_sorted, replays_have_one_text, audits_have_one_text}
 use Rattle.casper_app.proofs.laws.schedule_laws.Goals as goal
 
 pub returns-clause-read_back : goal.returns-clause-read_back
@@ -13,3 +13,6 @@ returns-clause-sorted c = lines_are_sorted
 
 pub returns-clause-replays : goal.returns-clause-replays
 returns-clause-replays c = replays_have_one_text
+
+pub returns-clause-audits : goal.returns-clause-audits
+returns-clause-audits c = audits_have_one_text

@@ -1,6 +1,6 @@
-use Rattle.std.proofs.Common.{◌+◌, ◌∙◌, arith, Ok, Err, refl, inl, inr}
+use Rattle.std.proofs.Common.{◌+◌, ◌∙◌, arith, refl, inl, inr}
 use Rattle.casper_app.specs.Reading.{IsReading}
-use Rattle.casper_app.proofs.ReadingLemmas.{stands_first, stands_more, reading_failed, reading_failed_last, reading_refused, input_at, is_line, err_is}
+use Rattle.casper_app.proofs.ReadingLemmas.{stands_first, stands_more, reading_failed, reading_failed_last, reading_refused, is_line, err_is}
 use Rattle.casper_app.proofs.lines.take_lines.Goals as goal
 
 pub loop-lines-init : goal.loop-lines-init
@@ -19,12 +19,12 @@ returns-in_err-take_line-clause-reading g c =
     (IsReading g.V.Vault.tells g.V.Vault.faults (g.S.Source.left c.args.source.now) (g.S.Source.left c.read_line.new.source) (g.K.Sink.taken c.args.sink.now) (g.K.Sink.taken c.take_line.new.sink) c.args.replay.now c.take_line.new.self)
     c.from_residual-in_err-take_line.ensures.1
     (reading_refused _ _ c.take_line.new.self c.read_line.new.line c.loop-lines.invariant.0 (is_line _ _ c.in_ok-read_line.field-0 c.if-not-branch.false c.in_ok-read_line.ensures.next) c.in_err-take_line.field-0.0 c.loop-lines-test.true
-    (input_at g.V.Vault.tells g.V.Vault.faults (c.loop-lines.lines + 1) c.bytes.result.now c.read_line.new.line c.loop-lines.replay c.take_line.new.self _ _ (Err c.in_err-take_line.field-0.0) c.bytes.ensures.bytes c.in_err-take_line.ensures.takes))
+    c.in_err-take_line.ensures.takes)
 
 pub loop-lines-preserved : goal.loop-lines-preserved
 loop-lines-preserved g c = (
   stands_more _ _ c.take_line.new.self c.read_line.new.line c.loop-lines.invariant.0 (is_line _ _ c.in_ok-read_line.field-0 c.if-not-branch.false c.in_ok-read_line.ensures.next)
-      (input_at g.V.Vault.tells g.V.Vault.faults (c.loop-lines.lines + 1) c.bytes.result.now c.read_line.new.line c.loop-lines.replay c.take_line.new.self _ _ (Ok tt) c.bytes.ensures.bytes c.in_ok-take_line.ensures.takes),
+      c.in_ok-take_line.ensures.takes,
   (elim c.in_ok-read_line.ensures.source_stands [ inl failed ↦ (let none = failed in cc) | inr same ↦ same ]) ∙ c.loop-lines.invariant.1,
   (elim c.in_ok-take_line.ensures.sink_stands [ inl failed ↦ (let none = failed in cc) | inr same ↦ same ]) ∙ c.loop-lines.invariant.2,
 )

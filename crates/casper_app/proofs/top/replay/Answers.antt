@@ -1,28 +1,54 @@
 use Rattle.std.proofs.Common.{refl, sym, ap, subst, ◌∙◌}
 use Rattle.casper_core.specs.Represents.{Represents}
+use Rattle.casper_core.specs.Shaped.{RepresentsButWords}
 use Rattle.casper_app.specs.declared.end.End.TheVariants as end
+use Rattle.casper_app.specs.Comes.{ComesFrom, ComesInShape}
 use Rattle.casper_app.specs.Ending.{EndsWith}
 use Rattle.casper_app.proofs.CarryLemmas.{trail_carried}
-use Rattle.casper_app.proofs.RunLemmas.{runs_done, runs_stopped, runs_unread, runs_at}
+use Rattle.casper_app.proofs.RunLemmas.{runs_done, runs_stopped, runs_unread, shape_done, shape_stopped, shape_unread, runs_at}
 use Rattle.casper_app.proofs.top.replay.Goals as goal
 use Rattle.casper_app.proofs.top.replay.Goals.{in-Ok-take_lines, in-Err-take_lines}
 
 pub returns-in-Err-clause-run : goal.returns-in-Err-clause-run
 returns-in-Err-clause-run g c told start stands =
-    runs_at start c.args.outlet c.args.outlet _ _ _ _ _ _ _ _ _ _ _ _ _ refl refl (ap g.V.Vault.faults (sym c.into_parts-hub.ensures.vault)) refl refl
+    runs_at (ComesFrom start) c.args.outlet c.args.outlet _ _ _ _ _ _ _ _ _ _ _ _ _ refl refl (ap g.V.Vault.faults (sym c.into_parts-hub.ensures.vault)) refl refl
     (runs_unread start c.args.outlet (g.V.Vault.faults c.args.core.vault) _ _ _ _ _ _ c.end_unread-ended.ensures.ends c.end_unread-ended.ensures.answers
     (c.end_unread-ended.ensures.trail ∙ c.into_trail.ensures.items ∙ ap (λ h. h.trail) c.into_parts-hub.ensures.hub ∙ trail_carried start c.args.core stands))
+
+pub returns-in-Err-clause-shape : goal.returns-in-Err-clause-shape
+returns-in-Err-clause-shape g c start shape =
+    runs_at (ComesInShape start) c.args.outlet c.args.outlet _ _ _ _ _ _ _ _ _ _ _ _ _ refl refl (ap g.V.Vault.faults (sym c.into_parts-hub.ensures.vault)) refl refl
+    (shape_unread start c.args.outlet (g.V.Vault.faults c.args.core.vault) _ _ _ _ _ _ c.end_unread-ended.ensures.ends c.end_unread-ended.ensures.answers
+    (c.end_unread-ended.ensures.trail ∙ c.into_trail.ensures.items ∙ ap (λ h. h.trail) c.into_parts-hub.ensures.hub ∙ sym shape.shared.trail))
 
 pub returns-clause-run : goal.returns-clause-run
 returns-clause-run g c told start stands =
     let here = subst (λ core. Represents start core) (sym c.new-replay.ensures.core) stands in
     let calls = ap (λ core. core.calls) c.new-replay.ensures.core ∙ c.requires in
-    runs_at start c.new-replay.result.outlet c.args.outlet _ _ _ _ _ _ _ _ _ _ _ _ _ c.new-replay.ensures.outlet
+    runs_at (ComesFrom start) c.new-replay.result.outlet c.args.outlet _ _ _ _ _ _ _ _ _ _ _ _ _ c.new-replay.ensures.outlet
     (ap (λ core. g.V.Vault.faults core.vault) c.new-replay.ensures.core) (ap g.V.Vault.faults (sym c.into_parts-answers.ensures.vault))
     (ap (λ a. a.items) (sym c.into_parts-answers.ensures.answers)) (sym c.into_parts-answers.ensures.trail)
     (elim c.match-take_lines.branch [
-      | in-Ok-take_lines w ↦ runs_done w.in-Ok-take_lines.lines start _ _ w.in-Ok-take_lines.ensures.reading told here calls c.new-replay.ensures.answers
+      | in-Ok-take_lines w ↦ runs_done w.in-Ok-take_lines.lines start _ _ w.in-Ok-take_lines.ensures.reading calls c.new-replay.ensures.answers
           (subst (λ e. EndsWith e c.write_ending-last.result (g.K.Sink.taken c.take_lines.new.sink) (g.K.Sink.taken c.write_ending-last.new.sink)) (w.said-is ∙ ap end.Done w.summary.ensures) c.write_ending-last.ensures.ends)
-      | in-Err-take_lines w ↦ runs_stopped w.in-Err-take_lines.cause start _ _ w.in-Err-take_lines.ensures.reading told here c.new-replay.ensures.answers
+          told here
+      | in-Err-take_lines w ↦ runs_stopped w.in-Err-take_lines.cause start _ _ w.in-Err-take_lines.ensures.reading c.new-replay.ensures.answers
           (subst (λ e. EndsWith e c.write_ending-last.result (g.K.Sink.taken c.take_lines.new.sink) (g.K.Sink.taken c.write_ending-last.new.sink)) w.said-is c.write_ending-last.ensures.ends)
+          told here
+    ])
+
+pub returns-clause-shape : goal.returns-clause-shape
+returns-clause-shape g c start shape =
+    let here = subst (λ core. RepresentsButWords start core) (sym c.new-replay.ensures.core) shape in
+    let calls = ap (λ core. core.calls) c.new-replay.ensures.core ∙ c.requires in
+    runs_at (ComesInShape start) c.new-replay.result.outlet c.args.outlet _ _ _ _ _ _ _ _ _ _ _ _ _ c.new-replay.ensures.outlet
+    (ap (λ core. g.V.Vault.faults core.vault) c.new-replay.ensures.core) (ap g.V.Vault.faults (sym c.into_parts-answers.ensures.vault))
+    (ap (λ a. a.items) (sym c.into_parts-answers.ensures.answers)) (sym c.into_parts-answers.ensures.trail)
+    (elim c.match-take_lines.branch [
+      | in-Ok-take_lines w ↦ shape_done w.in-Ok-take_lines.lines start _ _ w.in-Ok-take_lines.ensures.reading calls c.new-replay.ensures.answers
+          (subst (λ e. EndsWith e c.write_ending-last.result (g.K.Sink.taken c.take_lines.new.sink) (g.K.Sink.taken c.write_ending-last.new.sink)) (w.said-is ∙ ap end.Done w.summary.ensures) c.write_ending-last.ensures.ends)
+          here
+      | in-Err-take_lines w ↦ shape_stopped w.in-Err-take_lines.cause start _ _ w.in-Err-take_lines.ensures.reading c.new-replay.ensures.answers
+          (subst (λ e. EndsWith e c.write_ending-last.result (g.K.Sink.taken c.take_lines.new.sink) (g.K.Sink.taken c.write_ending-last.new.sink)) w.said-is c.write_ending-last.ensures.ends)
+          here
     ])

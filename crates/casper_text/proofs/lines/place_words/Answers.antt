@@ -1,7 +1,7 @@
 use Rattle.std.proofs.Common.{arith}
 use Rattle.casper_text.proofs.LineLemmas.{IsRead-more, IsRead-space, IsRead-end}
-use Rattle.casper_text.proofs.lines.spans_of.Goals as goal
-use Rattle.casper_text.proofs.lines.spans_of.Goals.{then-byte-eq32+in_ok-push_between, else-byte-eq32}
+use Rattle.casper_text.proofs.lines.place_words.Goals as goal
+use Rattle.casper_text.proofs.lines.place_words.Goals.{then-byte-eq32+in_ok-push_between, else-byte-eq32}
 
 pub loop-at-preserved : goal.loop-at-preserved
 loop-at-preserved c =

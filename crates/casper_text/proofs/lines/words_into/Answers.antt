@@ -1,6 +1,6 @@
 use Rattle.std.proofs.Common.{◌∙◌, sym}
 use Rattle.casper_text.proofs.LineLemmas.{printable_exactly, printable_refused}
-use Rattle.casper_text.proofs.lines.words_of.Goals as goal
+use Rattle.casper_text.proofs.lines.words_into.Goals as goal
 
 pub returns-then-not-is_printable-clause-exactly :
     goal.returns-then-not-is_printable-clause-exactly

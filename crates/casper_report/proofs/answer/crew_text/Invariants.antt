@@ -1,8 +1,0 @@
-use Rattle.std.proofs.Common.{◌≡◌, ◌<◌, ◌++◌}
-use Rattle.std.specs.Prelude.{string_bytes}
-use Rattle.casper_words.specs.Crew.{IsCrew}
-use Rattle.casper_report.proofs.TextLemmas.{members_text}
-use Rattle.casper_report.proofs.answer.crew_text.Given as goal
-
-abbrev pub invariant-loop-below : goal.invariant-loop-below
-invariant-loop-below l = (0 < l.below → IsCrew l.crew) × (string_bytes l.text ≡ l.word ++ members_text l.crew l.below)
