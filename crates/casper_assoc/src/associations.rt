@@ -159,3 +159,6 @@ fn forget_calls(open_calls: &mut [u32; Who::PLACES], members: Crew)
         }
     }
 }
+
+#[cfg(test)]
+mod tests;

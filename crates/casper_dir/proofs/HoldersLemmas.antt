@@ -1,5 +1,5 @@
-use Rattle.std.proofs.Common.{◌≡◌, ℕ, Bool, true, false, cond, ◌&&◌, ◌||◌, not, nat_eq, List, [], Some, None, eq-eqb, refl, sym, ap, ◌∙◌, subst, ⊎_elim, Option}
-use Rattle.std.proofs.lemmas.Bool.{eqb-true, ne_eqb, cases_eq}
+use Rattle.std.proofs.Common.{◌≡◌, ℕ, Bool, true, false, cond, ◌&&◌, ◌||◌, not, nat_eq, List, [], Some, None, eq-eqb, refl, sym, ap, ◌∙◌, subst}
+use Rattle.std.proofs.lemmas.Bool.{eqb-true}
 use Rattle.casper_words.specs.declared.page.Right.{Right}
 use Rattle.casper_words.specs.declared.page.Right.TheVariants.{Read, Write}
 use Rattle.casper_words.specs.Crew.{has_member, crew_of, IsClient}
@@ -99,30 +99,6 @@ readers_without crew members rest made client is =
     cases true false = refl
     cases false true = refl
     cases false false = refl
-
--- a writer that is one of these clients is the writer no more
-pub writer_without : (members : List ℕ) (writer client : ℕ) → has_member writer members ≡ true →
-    None ≡ cond (has_member client members) None (right_in client (Writer writer))
-writer_without members writer client gone = ⊎_elim
-    (λ (same : client ≡ writer). let member : has_member client members ≡ true = ap (λ c. has_member c members) same ∙ gone in rw member refl)
-    (λ (differ : client ≡ writer → ⊥). rw (ne_eqb client writer differ) (none (has_member client members)))
-    (cases_eq client writer)
-  where
-    none : (gone : Bool) → None ≡ cond {A = Option Right} gone None None
-    none true = refl
-    none false = refl
-
--- and any other writer stays
-pub writer_beside : (members : List ℕ) (writer client : ℕ) → has_member writer members ≡ false →
-    right_in client (Writer writer) ≡ cond (has_member client members) None (right_in client (Writer writer))
-writer_beside members writer client stays = ⊎_elim
-    (λ (same : client ≡ writer). let apart : has_member client members ≡ false = ap (λ c. has_member c members) same ∙ stays in rw apart refl)
-    (λ (differ : client ≡ writer → ⊥). rw (ne_eqb client writer differ) (none (has_member client members)))
-    (cases_eq client writer)
-  where
-    none : (gone : Bool) → None ≡ cond {A = Option Right} gone None None
-    none true = refl
-    none false = refl
 
 -- the writer as the one reader
 pub lowered_writer : (crew : List ℕ) (who : ℕ) → crew ≡ crew_of (λ client. has_member client [] || nat_eq client who) →
