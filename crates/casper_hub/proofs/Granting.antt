@@ -5,6 +5,7 @@ use Rattle.std.proofs.lemmas.List.{length-take}
 use Rattle.casper_words.specs.declared.page.Right.TheVariants as may
 use Rattle.casper_words.specs.declared.page.Want.{Want}
 use Rattle.casper_trail.specs.declared.item.Item.{Item}
+use Rattle.casper_trail.specs.Modified.{is_modified}
 use Rattle.casper_trail.specs.Parts.{as_items}
 use Rattle.casper_dir.specs.Rights.{right_at}
 use Rattle.casper_cache.specs.declared.held.Held.{Held}
@@ -20,7 +21,7 @@ use Rattle.casper_hub.proofs.Whole.{Whole, Owning}
 use Rattle.casper_hub.proofs.Left.{distinct-kept}
 use Rattle.casper_hub.proofs.Giving.{writes_before, held_right_kept}
 use Rattle.casper_hub.proofs.Relying.{same_held}
-use Rattle.casper_hub.proofs.Changing.{changed, changed_here, live_elsewhere, stored_stays, formed_changed, plain_changed}
+use Rattle.casper_hub.proofs.Changing.{changed, changed_here, live_elsewhere, stored_stays, modified_elsewhere, formed_changed, plain_changed}
 use Rattle.casper_hub.proofs.Opened.{Begins, live_with_cap, plain_with_cap, fallen_with_cap, opened_up, seen_without_calls, same_server, opened_sound, opened_live, opened_frames, opened_words}
 use Rattle.casper_hub.proofs.Refused.{live_with_asks, plain_with_asks, fallen_with_asks, asks_in_range}
 use Rattle.casper_hub.proofs.Installed.{distinct_with_pages, missing_framed, begins_installed, words_installed}
@@ -199,8 +200,9 @@ granted_live base hub own wants missing after own_after turn page word =
 pub granted_frames : (base : List (List ℕ)) (hub : HubView) (own : cache.Own) (wants missing : List Want) (after : HubView) (own_after : cache.Own)
     → Granting hub own wants missing after own_after → FramesAreRight base hub → CacheIsRight base hub own → FramesAreRight base after
 granted_frames base hub own wants missing after own_after turn frames words =
-    grants.gives.words (live_value base after) (stored_value base after)
-    (same_server (live_value base opened) (stored_value base opened) (live_value base after) (stored_value base after) grants.granted
+    grants.gives.words (is_modified after.trail) (live_value base after) (stored_value base after)
+    (same_server (is_modified opened.trail) (is_modified after.trail) (live_value base opened) (stored_value base opened) (live_value base after) (stored_value base after) grants.granted
+    (λ page none writer is. sym (touched page) ∙ none writer is)
     (λ page word none. sym (granted_live base hub own wants missing after own_after turn page word))
     (λ page word. sym (ap (λ (h : HubView). stored_value base h page word) grants.hub_is ∙ stored_stays base opened.trail (touches_by own.client missing) page word))
     server)
@@ -219,13 +221,19 @@ granted_frames base hub own wants missing after own_after turn frames words =
         opened_frames base own.client hub (installed_in hub own missing) opened grants.opened_own (begins hub own wants missing after own_after turn) grants.opens frames
         (words_installed base hub own wants missing turn.sound turn.owns turn.can frames words)
 
-    server : ServerIsRight (live_value base opened) (stored_value base opened) grants.granted
+    -- touches modify nothing
+    touched : (page : ℕ) → is_modified after.trail page ≡ is_modified opened.trail page
+    touched page =
+        ap (λ (h : HubView). is_modified h.trail page) grants.hub_is
+        ∙ modified_elsewhere opened.trail (touches_by own.client missing) page (touches_write_nothing own.client missing page)
+
+    server : ServerIsRight (is_modified opened.trail) (live_value base opened) (stored_value base opened) grants.granted
     server page none =
         subst (λ (all : List (Option (List ℕ))). MatchOption (get_or all page None) ((word : ℕ) → word < 512 → live_value base opened page word ≡ stored_value base opened page word)
         (λ words. AreWords (live_value base opened) page words)) (sym grants.granted_frames)
-        (right_before page (granted_writer own.client opened.pages.rights grants.granted.rights page missing
+        (right_before page (λ writer is. none writer (granted_writer own.client opened.pages.rights grants.granted.rights page missing
         (opened_is_sound hub own wants missing after own_after turn).holders (grants.granted_rights page)
-        (λ client is differ. grants.granted_others client page is differ) none))
+        (λ client one differ. grants.granted_others client page one differ) writer is)))
 
 -- and so do those of the cache
 pub granted_words : (base : List (List ℕ)) (hub : HubView) (own : cache.Own) (wants missing : List Want) (after : HubView) (own_after : cache.Own)

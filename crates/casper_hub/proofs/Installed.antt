@@ -203,7 +203,7 @@ words_installed base hub own wants missing sound owns can frames words =
         ∙ values_stay want.page word (live_value base hub want.page word) (entries_by own.client own.pending)
         (unwritten own.client hub.pages own.pending want.page (writes_owned hub own sound owns) (λ writes. true≢false (sym (ap is_some writes) ∙ ap is_some absent)))))
         (of_frame want.page (frame_in hub.pages want.page) (missing_framed own.client hub own wants missing can want inside)
-        (frames want.page (no_writer_missing own.client hub own wants missing sound can want inside absent)))
+        (frames want.page (λ writer is. let nobody = no_writer_missing own.client hub own wants missing sound can want inside absent in cc)))
       where
         of_frame : (page : ℕ) (o : Option (List ℕ)) → IsSome o → MatchOption o ((word : ℕ) → word < 512 → live_value base hub page word ≡ stored_value base hub page word) (λ words. AreWords (live_value base hub) page words)
             → AreWords (live_value base hub) page (unwrap_or o [])

@@ -1,8 +1,8 @@
-use Rattle.std.proofs.Common.{◌≡◌, ◌≢◌, ◌<◌, ◌≤◌, ℕ, suc, ◌∙◌, List, [], ◌∷◌, ◌++◌, true, false, ◌&&◌, ◌==◌, fold, length, get_or-set_same, filter_map, refl, sym, ap, subst, true≢false, Contains, arith}
+use Rattle.std.proofs.Common.{◌≡◌, ◌≢◌, ◌<◌, ◌≤◌, ℕ, suc, ◌∙◌, List, [], ◌∷◌, ◌++◌, Bool, true, false, ◌&&◌, ◌||◌, ◌==◌, fold, length, get_or-set_same, filter_map, refl, sym, ap, subst, true≢false, Contains, arith}
 use Rattle.std.specs.Prelude.{Option, None, Some, IsSome, is_some, option_map, option_and_then, MatchOption, min}
-use Rattle.std.specs.List.{cons_option}
+use Rattle.std.specs.List.{cons_option, list_any}
 use Rattle.std.proofs.Math.Nat.{min-le_right}
-use Rattle.std.proofs.lemmas.Bool.{false_from_ne_true, and_parts, eqb-true}
+use Rattle.std.proofs.lemmas.Bool.{false_from_ne_true, and_parts, or_parts, eqb-true}
 use Rattle.casper_words.specs.declared.call.Op.{Op}
 use Rattle.casper_words.specs.declared.call.Op.TheVariants as op
 use Rattle.casper_words.specs.declared.call.Call.{Call}
@@ -11,6 +11,7 @@ use Rattle.casper_words.specs.declared.page.Right.TheVariants as may
 use Rattle.casper_words.specs.declared.page.Want.{Want}
 use Rattle.casper_trail.specs.declared.entry.Entry.{Entry}
 use Rattle.casper_trail.specs.Value.{value_of, value_after, writes_page, is_write}
+use Rattle.casper_trail.specs.Modified.{is_modified}
 use Rattle.casper_trail.specs.Parts.{as_items, live_entries}
 use Rattle.casper_trail.specs.Calls.{entries_by}
 use Rattle.casper_trail.proofs.Parts.{live_of_more_entries}
@@ -22,8 +23,9 @@ use Rattle.casper_cache.specs.Own as cache
 use Rattle.casper_cache.proofs.Entries.{entry_of-page}
 use Rattle.casper_model.specs.LegalHistory.{right_for}
 use Rattle.casper_model.proofs.Entries.{contains_entry}
+use Rattle.casper_turns.proofs.Lists.{none_passes}
 use Rattle.casper_hub.specs.HubView.{HubView, ClientView, PagesView, client_in, cap_in, cap_of, asks_of, fallen_in, is_live, free_in, with_cap, frame_in, items_behind}
-use Rattle.casper_hub.specs.Words.{live_value, stored_value, seen_value, AreWords, ServerIsRight, HeldIsRight, FramesAreRight, CacheIsRight}
+use Rattle.casper_hub.specs.Words.{live_value, stored_value, seen_value, AreWords, HasNoOpenWriter, ServerIsRight, HeldIsRight, FramesAreRight, CacheIsRight}
 use Rattle.casper_hub.specs.Shows.{permits}
 use Rattle.casper_hub.specs.Given.{Covers, GivesUp, Falls, left_of, kept_as, topped}
 use Rattle.casper_hub.specs.Stages.{Opens}
@@ -34,7 +36,7 @@ use Rattle.casper_hub.proofs.Showing.{allows_right}
 use Rattle.casper_hub.proofs.Left.{entry_of-kept, distinct-kept}
 use Rattle.casper_hub.proofs.Giving.{writes_before, held_right_kept}
 use Rattle.casper_hub.proofs.Relying.{seen_plain, same_held, same_words}
-use Rattle.casper_hub.proofs.Changing.{IsPlainPlace, live_elsewhere, stored_stays, formed_changed, plain_changed}
+use Rattle.casper_hub.proofs.Changing.{IsPlainPlace, live_elsewhere, stored_stays, modified_more, formed_changed, plain_changed}
 
 -- each of these calls that writes is on a page that its client may write
 abbrev pub WritesAreHeld : ℕ → PagesView → List Call → Type 0
@@ -164,11 +166,12 @@ unwritten who pages calls page held never entry inside =
 pub no_writer_no_right : (pages : PagesView) (page who : ℕ) → writer_at pages.rights page ≡ None → right_at pages.rights who page ≢ Some may.Write
 no_writer_no_right pages page who none writes = let found = (writer_holds_to_write pages.rights page who).1 writes in cc
 
--- frames that are right for some values are right for others that are the same where nobody writes
-pub same_server : (value stored value_too stored_too : ℕ → ℕ → ℕ) (pages : PagesView)
-    → ((page word : ℕ) → writer_at pages.rights page ≡ None → value page word ≡ value_too page word) → ((page word : ℕ) → stored page word ≡ stored_too page word)
-    → ServerIsRight value stored pages → ServerIsRight value_too stored_too pages
-same_server value stored value_too stored_too pages same same_stored right page none = of_frame (frame_in pages page) (right page none)
+-- frames that are right for some values are right for others that are the same where nobody has an open write
+pub same_server : (modified modified_too : ℕ → Bool) (value stored value_too stored_too : ℕ → ℕ → ℕ) (pages : PagesView)
+    → ((page : ℕ) → HasNoOpenWriter modified_too pages page → HasNoOpenWriter modified pages page)
+    → ((page word : ℕ) → HasNoOpenWriter modified_too pages page → value page word ≡ value_too page word) → ((page word : ℕ) → stored page word ≡ stored_too page word)
+    → ServerIsRight modified value stored pages → ServerIsRight modified_too value_too stored_too pages
+same_server modified modified_too value stored value_too stored_too pages free same same_stored right page none = of_frame (frame_in pages page) (right page (free page none))
   where
     of_frame : (o : Option (List ℕ)) → MatchOption o ((word : ℕ) → word < 512 → value page word ≡ stored page word) (λ words. AreWords value page words)
         → MatchOption o ((word : ℕ) → word < 512 → value_too page word ≡ stored_too page word) (λ words. AreWords value_too page words)
@@ -212,13 +215,27 @@ opened_up who hub own after own_after begins opens =
 pub opened_frames : (base : List (List ℕ)) (who : ℕ) (hub : HubView) (own : cache.Own) (after : HubView) (own_after : cache.Own) → Begins who hub own → Opens who hub own after own_after
     → FramesAreRight base hub → CacheIsRight base hub own → FramesAreRight base after
 opened_frames base who hub own after own_after begins opens frames words =
-    opens.gives.words (live_value base after) (stored_value base after)
-    (same_server (live_value base hub) (stored_value base hub) (live_value base after) (stored_value base after) hub.pages
+    opens.gives.words (is_modified after.trail) (live_value base after) (stored_value base after)
+    (same_server (is_modified hub.trail) (is_modified after.trail) (live_value base hub) (stored_value base hub) (live_value base after) (stored_value base after) hub.pages
+    (λ page none writer is. (or_parts (is_modified hub.trail page) (list_any (writes_page page) (entries_by who own.pending)) (recorded page ∙ none writer is)).0)
     (λ page word none. sym (ap (λ (h : HubView). live_value base h page word) opens.hub_is
-    ∙ live_elsewhere base hub.trail (entries_by who own.pending) page word (unwritten who hub.pages own.pending page begins.writes (no_writer_no_right hub.pages page who none))))
+    ∙ live_elsewhere base hub.trail (entries_by who own.pending) page word (apart page none)))
     (λ page word. sym (ap (λ (h : HubView). stored_value base h page word) opens.hub_is ∙ stored_stays base hub.trail (entries_by who own.pending) page word))
     frames)
     (same_held (seen_value base hub own) (live_value base after) own.held (λ page word held. sym (opened_seen base who hub own after own_after begins opens page word)) words)
+  where
+    recorded : (page : ℕ) → (is_modified hub.trail page || list_any (writes_page page) (entries_by who own.pending)) ≡ is_modified after.trail page
+    recorded page = sym (ap (λ (h : HubView). is_modified h.trail page) opens.hub_is ∙ modified_more hub.trail (entries_by who own.pending) page)
+
+    -- a page that somebody holds for writing is not written where it is not modified then, and nobody writes any other
+    apart : (page : ℕ) → HasNoOpenWriter (is_modified after.trail) hub.pages page → (entry : Entry) → Contains (entries_by who own.pending) entry → writes_page page entry ≡ false
+    apart page none =
+        (elim (writer_at hub.pages.rights page) as (λ o. writer_at hub.pages.rights page ≡ o → (entry : Entry) → Contains (entries_by who own.pending) entry → writes_page page entry ≡ false) [
+          | None ↦ λ nobody. unwritten who hub.pages own.pending page begins.writes (no_writer_no_right hub.pages page who nobody)
+          | Some writer ↦ λ is entry inside.
+              none_passes (writes_page page) (entries_by who own.pending) entry
+              (or_parts (is_modified hub.trail page) (list_any (writes_page page) (entries_by who own.pending)) (recorded page ∙ none writer is)).1 inside
+        ]) refl
 
 pub opened_words : (base : List (List ℕ)) (who : ℕ) (hub : HubView) (own : cache.Own) (after : HubView) (own_after : cache.Own) → Begins who hub own → Opens who hub own after own_after
     → CacheIsRight base hub own → CacheIsRight base after own_after
