@@ -61,14 +61,14 @@ module _ {R : Type 0} (turning : Shared → machine.Own → Turned R) (said_of :
   absent_here state outside gone =
       is_step.steps state outside ∙ refused_by (shared_part.is_live state.shared who) answer.Absent state (stepped turning said_of who) gone
 
-  pub absent_steps : (caches : List (Option cache.Own)) → cache_at core who ≡ None → caches ≡ core.caches → Steps one answer.Absent core (record core { caches = caches })
-  absent_steps caches none back state stands =
+  pub absent_leaving : (caches : List (Option cache.Own)) → cache_at core who ≡ None → caches ≡ core.caches → Steps one answer.Absent core (record core { caches = caches })
+  absent_leaving caches none back state stands =
       answered_same state one answer.Absent core (record core { caches = caches }) is_step.named stands
       (absent_here state (outside_of answer.Absent) (live_where core who false state sound stands.parts.shared (ap is_some none)))
       (subst (λ list. HasPartsOf state (record core { caches = list })) (sym back) stands.parts)
 
-  pub absent_made : (caches : List (Option cache.Own)) → cache_at core who ≡ None → caches ≡ core.caches → StepsInShape one answer.Absent core (record core { caches = caches })
-  absent_made caches none back state shape =
+  pub absent_leaving_made : (caches : List (Option cache.Own)) → cache_at core who ≡ None → caches ≡ core.caches → StepsInShape one answer.Absent core (record core { caches = caches })
+  absent_leaving_made caches none back state shape =
       made_same state one answer.Absent (record core { caches = caches })
       (is_step.made state answer.Absent
       ∙ absent_here state (outside_of answer.Absent) (live_where core who false state sound shape.shared (ap is_some none)))
