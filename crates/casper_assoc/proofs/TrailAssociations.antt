@@ -79,7 +79,7 @@ count_at counts who client count within =
     rw test (get_or-set_other counts who client (get_or counts who 0 + count) 0 differ ∙ omega arith))
     (cases_eq client who)
 
-pub recorded : (old new : AssociationsView) (who : ℕ) (calls : List Call) → IsClient who → who < length old.counts
+recorded : (old new : AssociationsView) (who : ℕ) (calls : List Call) → IsClient who → who < length old.counts
     → NotesCalls old.labelling new.labelling who calls → new.labelling.labels ≡ old.labelling.labels
     → new.counts ≡ set old.counts who (open_calls_of old who + count_by (λ call. is_read_or_write call.op) calls)
     → RecordsCalls old new who calls
@@ -92,6 +92,16 @@ recorded old new who calls is within noted same counted items clients are with_t
       ∙ ap (λ n. n + cond (nat_eq who client) (count_by (λ (call : Call). is_read_or_write call.op) calls) 0) (are.calls client is_client)
       ∙ sym (open_calls_after_calls items who client calls);
 }
+
+-- the same where the count is at the place of the client's number
+pub recorded_at : (old new : AssociationsView) (who place counted : ℕ) (calls : List Call) → place ≡ who → IsClient place
+    → length old.counts ≡ 33 → NotesCalls old.labelling new.labelling who calls → new.labelling.labels ≡ old.labelling.labels
+    → counted ≡ count_by (λ call. is_read_or_write call.op) calls
+    → new.counts ≡ set old.counts place (get_or old.counts place 0 + counted) → RecordsCalls old new who calls
+recorded_at old new who place counted calls at is places noted same count set_there =
+    recorded old new who calls (subst (λ w. IsClient w) at is) (omega (arith, places, at, is.1)) noted same
+    (set_there ∙ ap (λ p. set old.counts p (get_or old.counts p 0 + counted)) at
+    ∙ ap (λ n. set old.counts who (get_or old.counts who 0 + n)) count)
 
 touched : (old new : AssociationsView) (who page : ℕ) → IsClient who
     → MergesWithPage old.labelling new.labelling who (page_label_of old.labelling page) → new.counts ≡ old.counts → TouchesPage old new who page
