@@ -1,7 +1,7 @@
-use Rattle.std.proofs.Common.{◌≡◌, ◌≢◌, ◌<◌, ℕ, ◌+◌, Bool, true, false, cond, nat_eq, List, [], ◌∷◌, ◌++◌, Contains, Option, None, Some, option_map, count_by, set, length, map, replicate, get_or, eq-eqb, refl, sym, ap, ◌∙◌, subst, ⊎_elim, arith, append_assoc, append-nil, suc}
+use Rattle.std.proofs.Common.{◌≡◌, ◌≢◌, ◌<◌, ℕ, ◌+◌, Bool, true, false, cond, nat_eq, List, [], ◌∷◌, ◌++◌, Contains, Option, None, Some, option_map, count_by, set, length, map, replicate, take, get_or, eq-eqb, refl, sym, ap, ◌∙◌, subst, ⊎_elim, arith, append_assoc, append-nil, zero, suc}
 use Rattle.std.specs.List.{find}
 use Rattle.std.proofs.lemmas.Bool.{ne_eqb, eqb-true, eqb-false, cases_Bool, cases_eq}
-use Rattle.std.proofs.lemmas.List.{get_or-set_same, get_or-set_other, map-append}
+use Rattle.std.proofs.lemmas.List.{take_more, get_or-set_same, get_or-set_other, map-append}
 use Rattle.casper_words.specs.declared.call.Call.{Call}
 use Rattle.casper_words.specs.declared.page.Want.{Want}
 use Rattle.casper_words.specs.Crew.{IsClient, has_member}
@@ -19,18 +19,20 @@ use Rattle.casper_trail.specs.Association.{association_of}
 use Rattle.casper_trail.specs.GrowthLaws.{WritersAreWith}
 use Rattle.casper_trail.proofs.CallLists.{clients_of_more}
 use Rattle.casper_trail.proofs.Links.{client_at}
-use Rattle.casper_assoc.specs.Labelling.{Labelling, label_of, clients_labelled, writer_of, page_label_of, is_writer, IsSound, AreAlone, DissolvesPart, UnlabelsPages}
+use Rattle.casper_assoc.specs.Labelling.{Labelling, label_of, clients_labelled, writer_of, page_label_of, is_writer, IsSound, AreAlone, MergesParts, DissolvesPart, UnlabelsPages}
 use Rattle.casper_assoc.specs.TrailLabels.{AreLabelsOf, IsFreeOrOf, MergesWithPage, NotesCalls, named_by}
-use Rattle.casper_assoc.specs.TrailAssociations.{AssociationsView, AreAssociationsOf, open_calls_of, AreMembersOf, RecordsCalls, TouchesPage, TouchesEach, touches_by, DissolvesAssociation}
+use Rattle.casper_assoc.specs.TrailAssociations.{AssociationsView, AreAssociationsOf, open_calls_of, PagesAreWithin, AreMembersOf, RecordsCalls, TouchesPage, TouchesEach, touches_by, DissolvesAssociation}
 use Rattle.casper_assoc.specs.AssociationsLaws.{ModifiedByTheWriter, MembersLabelledTheModified}
 use Rattle.casper_assoc.proofs.TrailParts.{found_in, no_open_write, together, first_of, writers_label, labels_at_the_start, entry_merges_parts, pages_of_a_part}
 use Rattle.casper_assoc.proofs.TrailCalls.{calls_within_part}
 use Rattle.casper_assoc.proofs.TrailMarks.{mark_dissolves_part, exact_members}
+use Rattle.casper_assoc.proofs.WrittenLists.{within_some, listed_at}
+use Rattle.casper_assoc.specs.Written.{AreWrittenBy}
 use Rattle.casper_assoc.proofs.TrailCounts.{open_calls_after_calls, open_calls_after_touch, open_calls_after_mark}
 
-none_at : (count place : ℕ) → get_or (replicate count 0) place 0 ≡ 0
-none_at 0 place = refl
-none_at (suc count) 0 = refl
+none_at : (count place : ℕ) → get_or (replicate {A = ℕ} count 0) place 0 ≡ 0
+none_at zero place = refl
+none_at (suc count) zero = refl
 none_at (suc count) (suc place) = none_at count place
 
 -- the associations of the trail that begins
@@ -77,7 +79,7 @@ count_at counts who client count within =
     rw test (get_or-set_other counts who client (get_or counts who 0 + count) 0 differ ∙ omega arith))
     (cases_eq client who)
 
-pub recorded : (old new : AssociationsView) (who : ℕ) (calls : List Call) → IsClient who → who < length old.counts
+recorded : (old new : AssociationsView) (who : ℕ) (calls : List Call) → IsClient who → who < length old.counts
     → NotesCalls old.labelling new.labelling who calls → new.labelling.labels ≡ old.labelling.labels
     → new.counts ≡ set old.counts who (open_calls_of old who + count_by (λ call. is_read_or_write call.op) calls)
     → RecordsCalls old new who calls
@@ -91,7 +93,17 @@ recorded old new who calls is within noted same counted items clients are with_t
       ∙ sym (open_calls_after_calls items who client calls);
 }
 
-pub touched : (old new : AssociationsView) (who page : ℕ) → IsClient who
+-- the same where the count is at the place of the client's number
+pub recorded_at : (old new : AssociationsView) (who place counted : ℕ) (calls : List Call) → place ≡ who → IsClient place
+    → length old.counts ≡ 33 → NotesCalls old.labelling new.labelling who calls → new.labelling.labels ≡ old.labelling.labels
+    → counted ≡ count_by (λ call. is_read_or_write call.op) calls
+    → new.counts ≡ set old.counts place (get_or old.counts place 0 + counted) → RecordsCalls old new who calls
+recorded_at old new who place counted calls at is places noted same count set_there =
+    recorded old new who calls (subst (λ w. IsClient w) at is) (omega (arith, places, at, is.1)) noted same
+    (set_there ∙ ap (λ p. set old.counts p (get_or old.counts p 0 + counted)) at
+    ∙ ap (λ n. set old.counts who (get_or old.counts who 0 + n)) count)
+
+touched : (old new : AssociationsView) (who page : ℕ) → IsClient who
     → MergesWithPage old.labelling new.labelling who (page_label_of old.labelling page) → new.counts ≡ old.counts → TouchesPage old new who page
 touched old new who page is merges same items clients are = record {
   labels = entry_merges_parts old.labelling new.labelling new.labelling items (touch_by who page) clients is are.labels merges refl;
@@ -100,6 +112,20 @@ touched old new who page is merges same items clients are = record {
       ∙ sym (open_calls_after_touch items who page client);
 }
 
+-- a touch of a page with a label merges the two parts
+pub touched_labelled : (old new : AssociationsView) (who page own label : ℕ) → IsClient who → own ≡ label_of old.labelling who
+    → page_label_of old.labelling page ≡ Some label → MergesParts old.labelling new.labelling own label
+    → new.labelling.writers ≡ old.labelling.writers → new.counts ≡ old.counts → TouchesPage old new who page
+touched_labelled old new who page own label is mine at merges writers same =
+    touched old new who page is
+    (subst (λ (o : Option ℕ). MergesWithPage old.labelling new.labelling who o) (sym at)
+    (subst (λ l. MergesParts old.labelling new.labelling l label) mine merges, writers)) same
+
+-- and of any other page nothing
+pub touched_free : (all : AssociationsView) (who page : ℕ) → IsClient who → page_label_of all.labelling page ≡ None → TouchesPage all all who page
+touched_free all who page is at =
+    touched all all who page is (subst (λ (o : Option ℕ). MergesWithPage all.labelling all.labelling who o) (sym at) refl) refl
+
 clients_of_touches : (who : ℕ) (wants : List Want) → IsClient who → AreOfClients (as_items (touches_by who wants))
 clients_of_touches who [] is = tt
 clients_of_touches who (want ∷ wants) is = (is, clients_of_touches who wants is)
@@ -107,7 +133,7 @@ clients_of_touches who (want ∷ wants) is = (is, clients_of_touches who wants i
 pub touched_none : (all : AssociationsView) (who : ℕ) → TouchesEach all all who []
 touched_none all who items clients are = subst (λ (l : List Item). AreAssociationsOf all l) (sym (append-nil items)) are
 
-pub touched_more : (old mid new : AssociationsView) (who : ℕ) (wants : List Want) (want : Want) → IsClient who → TouchesEach old mid who wants
+touched_more : (old mid new : AssociationsView) (who : ℕ) (wants : List Want) (want : Want) → IsClient who → TouchesEach old mid who wants
     → TouchesPage mid new who want.page → TouchesEach old new who (wants ++ want ∷ [])
 touched_more old mid new who wants want is before next items clients are =
     subst (λ (l : List Item). AreAssociationsOf new l) longer
@@ -120,6 +146,15 @@ touched_more old mid new who wants want is before next items clients are =
         append_assoc items (as_items (touches_by who wants)) (item.Entry (touch_by who want.page) ∷ [])
         ∙ ap (λ (l : List Item). items ++ l) (sym (map-append item.Entry (touches_by who wants) (touch_by who want.page ∷ [])))
         ∙ ap (λ (l : List Entry). items ++ as_items l) (sym (map-append (λ (w : Want). touch_by who w.page) wants (want ∷ [])))
+
+-- one want more of a list
+pub touched_next : (old mid new : AssociationsView) (who : ℕ) (wants : List Want) (i : ℕ) (want : Want) → i < length wants
+    → want ≡ get_or wants i want → IsClient who → TouchesEach old mid who (take i wants) → TouchesPage mid new who want.page
+    → TouchesEach old new who (take (i + 1) wants)
+touched_next old mid new who wants i want within at is before next =
+    subst (λ (l : List Want). TouchesEach old new who l)
+    (sym (take_more wants i want within ∙ ap (λ (w : Want). take i wants ++ w ∷ []) (sym at)))
+    (touched_more old mid new who (take i wants) want is before next)
 
 pub dissolved : (old new : AssociationsView) (who label : ℕ) (members : List ℕ) → IsSound old.labelling → IsClient who
     → label ≡ label_of old.labelling who → members ≡ clients_labelled old.labelling label
@@ -143,6 +178,11 @@ dissolved old new who label members sound is same labelled dissolves unlabels co
     of_mark : members ≡ members_of mark
     of_mark = members_are old who label members is same labelled items are ∙ ap (association_of items) (sym named)
         ∙ sym (exact_members items mark exact)
+
+-- the pages that a client labelled are pages of the store
+pub written_within : (all : AssociationsView) (who : ℕ) (pages : List ℕ) → AreWrittenBy all.labelling.writers who pages → PagesAreWithin all pages
+written_within all who pages written page inside =
+    within_some all.labelling.writers page who ((written.exactly page).0 (listed_at pages inside.0 page inside.1 (sym inside.2)))
 
 -- the client that labelled a page is a client
 labelled_by_client : (all : Labelling) (items : List Item) (page who : ℕ) → AreOfClients items → AreLabelsOf all items

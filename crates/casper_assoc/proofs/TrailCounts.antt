@@ -1,4 +1,4 @@
-use Rattle.std.proofs.Common.{◌≡◌, ℕ, ◌+◌, ◌≤◌, Bool, true, false, ◌&&◌, cond, not, nat_eq, List, [], ◌∷◌, ◌++◌, count_by, length, add-zero, refl, sym, ap, ap₂, ◌∙◌, ⊎_elim, arith}
+use Rattle.std.proofs.Common.{◌≡◌, ℕ, ◌+◌, ◌≤◌, Bool, true, false, ◌&&◌, cond, not, nat_eq, List, [], ◌∷◌, ◌++◌, count_by, length, add-zero, zero-add, refl, sym, ap, ap₂, ◌∙◌, ⊎_elim, arith}
 use Rattle.std.specs.List.{filter}
 use Rattle.std.proofs.lemmas.Bool.{ne_eqb, cases_Bool, cond_both, true≢false}
 use Rattle.std.proofs.lemmas.List.Sums.{sum_by-cons, count_by-le-length}
@@ -8,7 +8,7 @@ use Rattle.casper_trail.specs.declared.entry.Entry.{Entry}
 use Rattle.casper_trail.specs.declared.mark.Mark.{Mark}
 use Rattle.casper_trail.specs.declared.item.Item.{Item}
 use Rattle.casper_trail.specs.declared.item.Item.TheVariants as item
-use Rattle.casper_trail.specs.Fate.{Fate, fate_of, members_of}
+use Rattle.casper_trail.specs.Fate.{Fate, fate_of, is_open, members_of}
 use Rattle.casper_trail.specs.Parts.{entries_where, open_entries}
 use Rattle.casper_trail.specs.Calls.{is_read_or_write, is_call_of, entry_by, entries_by, touch_by}
 use Rattle.casper_trail.specs.TrailView.{is_entry, entry_count}
@@ -37,7 +37,7 @@ part_is_few test (item.Mark mark ∷ items) =
 pub open_calls_are_entries : OpenCallsAreEntries
 open_calls_are_entries items who =
     let few : open_calls_in items who ≤ length (open_entries items) = count_by-le-length (is_call_of who) (open_entries items) in
-    let all : length (open_entries items) ≤ entry_count items = part_is_few _ items in
+    let all : length (open_entries items) ≤ entry_count items = part_is_few (λ who fate. is_open fate) items in
     omega (arith, few, all)
 
 -- a client's calls as entries count for it
@@ -78,7 +78,7 @@ open_calls_after_touch items who page client =
     none false = refl
 
 -- an entry of another is no call of a client
-no_call_of : (client : ℕ) (entry : Entry) → nat_eq entry.who client ≡ false → cond (is_call_of client entry) 1 0 ≡ 0
+no_call_of : (client : ℕ) (entry : Entry) → nat_eq entry.who client ≡ false → cond {A = ℕ} (is_call_of client entry) 1 0 ≡ 0
 no_call_of client entry differ = rw differ refl
 
 -- no call of a member is left
@@ -108,7 +108,8 @@ all_left members client (entry ∷ entries) apart =
     let differ : nat_eq entry.who client ≡ false = ne_eqb entry.who client
     (λ same. true≢false (sym inside ∙ ap (λ c. has_member c members) same ∙ apart)) in
     rw inside (rest ∙ sym (one_more (is_call_of client) entry entries
-    ∙ ap (λ n. n + count_by (is_call_of client) entries) (no_call_of client entry differ))))
+    ∙ ap (λ n. n + count_by (is_call_of client) entries) (no_call_of client entry differ)
+    ∙ zero-add (count_by (is_call_of client) entries))))
     (λ (outside : has_member entry.who members ≡ false).
     rw outside (one_more (is_call_of client) entry (filter (λ e. not (has_member e.who members)) entries)
     ∙ ap (λ n. cond (is_call_of client entry) 1 0 + n) rest

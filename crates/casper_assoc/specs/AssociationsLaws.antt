@@ -1,4 +1,4 @@
-use Rattle.std.specs.Prelude.{◌≡◌, ◌≤◌, ◌+◌, ◌↔◌, ◌==◌, ◌∷◌, ◌++◌, if◌then◌else◌, ℕ, true, List, Contains, Some, count_by}
+use Rattle.std.specs.Prelude.{◌≡◌, ◌≤◌, ◌+◌, ◌↔◌, ◌==◌, ◌∷◌, ◌++◌, [], if◌then◌else◌, ℕ, true, List, Contains, Some, count_by}
 use Rattle.casper_words.specs.declared.call.Call.{Call}
 use Rattle.casper_words.specs.Crew.{IsClient, has_member}
 use Rattle.casper_trail.specs.declared.entry.Entry.{Entry}

@@ -1,4 +1,5 @@
-ghost use Rattle.std.specs.Prelude.{◌≡◌, ◌<◌, ◌+◌, ◌^◌, ℕ, [], length, slice_index, count_by, if◌then◌else◌, IfOk};
+ghost use Rattle.std.specs.Prelude.{◌≡◌, ◌<◌, ◌+◌, ◌^◌, ℕ, [], Contains, length, slice_index, count_by, if◌then◌else◌, IfOk};
+ghost use Rattle.casper_words.specs.declared.call.Call.{Call};
 ghost use Rattle.casper_words.specs.Crew.{IsClient, has_member};
 ghost use Rattle.casper_trail.specs.Calls.{is_read_or_write};
 ghost use Rattle.casper_assoc.specs.Labelling.{IsSound};
@@ -89,9 +90,10 @@ impl Associations {
         ensures trail { TouchesPage self.old self.new who page }
         ensures pages { pages_in self.new ≡ pages_in self.old }
         ensures sound { AreSound self.new }
+        ensures client { IsClient who }
     {
+        let own = self.labels.label(who);
         if let Some(label) = self.labels.page_label(page) {
-            let own = self.labels.label(who);
             self.labels.merge(own, label);
         }
     }
@@ -103,6 +105,7 @@ impl Associations {
         ensures pages { pages_in self.new ≡ pages_in self.old }
         ensures sound { AreSound self.new }
     {
+        let _labels = &self.labels;
         for want in wants {
             self.touch(who, want.page);
         }
@@ -124,7 +127,9 @@ impl Associations {
 
 /// Labels the pages that calls of a client write, where they have no label.
 fn label_written(labels: &mut Labels, who: Who, calls: &[Call])
-    requires { (call : Call) → Contains calls.now call → call.page < length labels.old.writers }
+    requires within { (call : Call) → Contains calls.now call
+        → call.page < length labels.old.writers }
+    requires sound { IsSound labels.old }
     ensures noted { NotesCalls labels.old labels.new who calls.now }
     ensures parts { labels.new.labels ≡ labels.old.labels }
     ensures count { length labels.new.writers ≡ length labels.old.writers }
