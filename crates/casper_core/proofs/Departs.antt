@@ -8,6 +8,7 @@ use Rattle.casper_model.specs.Shared.{Shared, fallen_at}
 use Rattle.casper_model.specs.Both.{Both}
 use Rattle.casper_model.specs.Opening.{handed_in_to, begun, given_up, gathering_of}
 use Rattle.casper_model.specs.Leave.{depart, departed_by}
+use Rattle.casper_core.proofs.Acquires.{opened_capacity}
 
 -- What a client's departure leaves of its own part.
 
@@ -30,3 +31,11 @@ departed_own : (shared : Shared) (own : machine.Own) → fallen_at shared own.wh
 departed_own shared own up =
     let both = given_up (begun shared own) in
     ap (λ fallen. (departed_by shared own fallen).own) up ∙ opened_who both (gathering_of both.shared both.own.who)
+
+-- a departure leaves the capacity
+departed_capacity : (shared : Shared) (own : machine.Own) (fallen : Option Fallen) → (departed_by shared own fallen).own.capacity ≡ own.capacity
+departed_capacity shared own None = opened_capacity shared own
+departed_capacity shared own (Some fallen) = refl
+
+pub depart_capacity : (shared : Shared) (own : machine.Own) → (depart shared own).own.capacity ≡ own.capacity
+depart_capacity shared own = departed_capacity shared own (fallen_at shared own.who)

@@ -1,5 +1,5 @@
-use Rattle.std.proofs.Common.{◌≡◌, ◌≢◌, ℕ, zero, suc, List, [], ◌∷◌, true, false, refl, sym, ap, ap₂, ◌∙◌, subst}
-use Rattle.std.specs.Prelude.{Option, None, Some, is_some, slice_set}
+use Rattle.std.proofs.Common.{◌≡◌, ◌≢◌, ℕ, zero, suc, List, [], ◌∷◌, Bool, true, false, refl, sym, ap, ap₂, ◌∙◌, subst}
+use Rattle.std.specs.Prelude.{Option, None, Some, IsTrue, is_some, slice_set}
 use Rattle.std.proofs.lemmas.Option.{none-some}
 use Rattle.casper_words.specs.Crew.{IsClient}
 use Rattle.casper_trail.specs.Parts.{stable_entries}
@@ -23,7 +23,7 @@ use Rattle.casper_hub.specs.Sound.{IsSound as Whole}
 use Rattle.casper_hub.specs.GoesOn.{KeepsClient}
 use Rattle.casper_hub.specs.Turns.{IsTurn}
 use Rattle.casper_hub.specs.Words.{FramesAreRight, CacheIsRight}
-use Rattle.casper_core.specs.Acting.{outside_of, IsTurnResult}
+use Rattle.casper_core.specs.Acting.{outside_of, IsTurnResult, KeepsHubRight, Holds}
 use Rattle.casper_core.specs.CoreView.{CoreView, cache_at}
 use Rattle.casper_core.specs.Placing.{placed, IsPlaced}
 use Rattle.casper_core.specs.Shaped.{RepresentsButWords, IsMade, StepsInShape, step_with}
@@ -32,7 +32,7 @@ use Rattle.casper_core.specs.Represents.{own_part, HasPartsOf}
 use Rattle.casper_core.specs.Stepping.{IsAnswered, Steps}
 use Rattle.casper_core.proofs.MachineTurns.{turned_gives, gives_by}
 use Rattle.casper_core.proofs.Places.{sound_placed, parts_placed, shape_placed}
-use Rattle.casper_core.proofs.StepParts.{answered_by, answered_same, passed_by, refused_by, live_where, shape_of, shape_at, made_same}
+use Rattle.casper_core.proofs.StepParts.{answered_by, answered_same, passed_by, refused_by, live_where, shape_of, shape_at, made_same, placed_again, right_again}
 
 -- A client leaves its place in a core, as it departs or vanishes.
 
@@ -131,3 +131,47 @@ module _ {R : Type 0} (turning : Shared → machine.Own → Turned R) (said_of :
             (parts_placed core who after None calls vault size told state (step state one outside) said sound client left_place stands.parts gives
             (record { frames = frames state.base stands.parts.frames (stands.parts.words who own found); words = λ other is. absurd (none-some other is) })
             (is_step.stable state outside) same_told))
+
+  -- a client that keeps its cache after all, since it was told that it had fallen
+  module _ (own : cache.Own) (found : cache_at core who ≡ Some own) (after : HubView) (own_after : cache.Own) (reply : R) (turn : IsTurn turning reply core.hub own after own_after)
+      (tells : Bool) (leaves : KeepsHubRight who tells core.told.image core.hub own after) (holds : Holds who tells core.told.image core.hub own after own_after)
+      (calls : ℕ) (vault : V) (size : ℕ) (told : VaultState) where
+    stayed_place : IsPlaced who core after (Some own_after)
+    stayed_place = placed_again core who own tells core.told.image after own_after sound found leaves holds
+
+    pub sound_stayed : size ≡ core.size → told.doubt ≡ None → IsSound (placed core at after (Some own_after) calls vault size told)
+    sound_stayed same_size sure =
+        subst (λ number. IsSound (placed core number after (Some own_after) calls vault size told)) (sym same)
+        (sound_placed core who after (Some own_after) calls vault size told sound client stayed_place same_size sure)
+
+    staying_gives : (state : State) → RepresentsButWords state core
+        → IsTurnResult who state (step state one (outside_of (said_of reply))) (said_of reply) after (own_of own_after)
+    staying_gives state shape =
+        let outside = outside_of (said_of reply) in
+        let here : step state one outside ≡ stepped turning said_of who state =
+        is_step.steps state outside
+        ∙ passed_by (shared_part.is_live state.shared who) answer.Absent state (stepped turning said_of who) (live_where core who true state sound shape.shared (ap is_some found)) in
+        gives_by who state (step state one outside) (stepped turning said_of who state) (said_of reply) after (own_of own_after) here
+        (turned_gives turning said_of reply who state core.hub own after own_after (shape_at core who own state client found shape) turn holds.client)
+
+    pub staying_made : StepsInShape one (said_of reply) core (placed core at after (Some own_after) calls vault size told)
+    staying_made state shape =
+        let said = said_of reply in
+        let gives = staying_gives state shape in
+        subst (λ number. IsMade state one said (placed core number after (Some own_after) calls vault size told)) (sym same)
+        (record {
+          answers = gives.answers ∙ sym (ap (λ (turned : Turn). turned.answer) (is_step.made state said));
+          shape = subst (λ (turned : Turn). RepresentsButWords turned.state (placed core who after (Some own_after) calls vault size told)) (sym (is_step.made state said))
+              (shape_placed core who after (Some own_after) calls vault size told state (step state one (outside_of said)) said sound client shape gives);
+        })
+
+    pub staying_steps : IsTrue tells → told ≡ core.told → Steps one (said_of reply) core (placed core at after (Some own_after) calls vault size told)
+    staying_steps is_told same_told state stands =
+        let said = said_of reply in
+        let outside = outside_of said in
+        let gives = staying_gives state (shape_of state core stands) in
+        subst (λ number. IsAnswered state one said (placed core number after (Some own_after) calls vault size told)) (sym same)
+        (answered_by state one said core (placed core who after (Some own_after) calls vault size told) is_step.named stands gives.answers
+        (parts_placed core who after (Some own_after) calls vault size told state (step state one outside) said sound client stayed_place stands.parts gives
+        (right_again core who own tells state after own_after is_told found stands.parts leaves holds)
+        (is_step.stable state outside) same_told))

@@ -1,5 +1,6 @@
-use Rattle.std.proofs.Common.{◌≡◌, ◌<◌, ◌≤◌, ◌^◌, ◌+◌, ◌++◌, ℕ, List, true, length, refl, sym, ap, ◌∙◌, subst, Contains, arith}
-use Rattle.std.specs.Prelude.{Option, None, Some, count_by}
+use Rattle.std.proofs.Common.{◌≡◌, ◌<◌, ◌≤◌, ◌^◌, ◌+◌, ◌++◌, ℕ, List, true, false, true≢false, length, refl, sym, ap, ◌∙◌, subst, Contains, arith}
+use Rattle.std.specs.Prelude.{Option, None, Some, Result, Ok, Err, OnOk, count_by, option_map}
+use Rattle.std.specs.Result.{is_err}
 use Rattle.std.proofs.lemmas.List.Sums.{count_by-le-length}
 use Rattle.casper_words.specs.Crew.{IsClient}
 use Rattle.casper_words.specs.declared.call.Call.{Call}
@@ -18,12 +19,16 @@ use Rattle.casper_model.specs.Held.{allows}
 use Rattle.casper_model.specs.LegalHistory.{right_for}
 use Rattle.casper_model.specs.Shared.{Shared, rights_at}
 use Rattle.casper_turns.specs.Good.{IsGoodShared}
-use Rattle.casper_hub.specs.HubView.{HubView, ClientView, PagesView, right_in, is_up, count_up}
+use Rattle.casper_hub.specs.declared.clients.Fall.{Fall}
+use Rattle.casper_hub.specs.HubView.{HubView, ClientView, PagesView, place_in, fall_of, fallen_in, right_in, is_up, count_up}
+use Rattle.casper_hub.specs.HubFields.{hub_of}
+use Rattle.casper_hub.specs.Places.{shown_fall}
 use Rattle.casper_hub.specs.Keeping.{IsKeptUp, MayBeRecorded}
 use Rattle.casper_hub.specs.Shows.{permits, Shows}
 use Rattle.casper_hub.specs.Sound.{IsSound, Stands}
 use Rattle.casper_hub.proofs.Installing.{right_within}
 use Rattle.casper_hub.proofs.Showing.{allows_right}
+use Rattle.casper_hub.proofs.ShownPlaces.{none_at}
 use Rattle.casper_hub.proofs.StandsFor.{stands_for}
 use Rattle.casper_hub.proofs.Whole.{Whole, Owning}
 
@@ -68,3 +73,32 @@ may_record hub own sound owns = record {
 -- the same of the number of the client
 pub may_record_for : (who : ℕ) (hub : HubView) (own : cache.Own) → own.client ≡ who → Whole hub → Owning hub own → MayBeRecorded hub.trail hub.pages who own.pending
 may_record_for who hub own is sound owns = subst (λ w. MayBeRecorded hub.trail hub.pages w own.pending) is (may_record hub own sound owns)
+
+-- a client of which no fall was found has not fallen
+pub up_inside : (clients : List (Option ClientView)) (who : ℕ) (found : Option Fall) → option_map shown_fall found ≡ fall_of (place_in clients who)
+    → ((fall : Fall) → found ≡ Some fall → ⊥) → fall_of (place_in clients who) ≡ None
+up_inside clients who found is never = sym is ∙ ap (option_map shown_fall) (none_at found never)
+
+-- the same of the hub that a function shows, and of the client of a cache
+pub up_seen : (who client limit : ℕ) (trail : List Item) (clients : List (Option ClientView)) (pages : PagesView) (hub : HubView) (found : Option Fall)
+    → hub_of trail limit clients pages ≡ hub → client ≡ who → option_map shown_fall found ≡ fall_of (place_in clients who)
+    → ((fall : Fall) → found ≡ Some fall → ⊥) → fallen_in hub client ≡ None
+up_seen who client limit trail clients pages hub found view same is never =
+    ap (fallen_in hub) same ∙ subst (λ (h : HubView). fallen_in h who ≡ None) view (up_inside clients who found is never)
+
+-- and the fall that was found is the client's
+pub fell_seen : (who limit : ℕ) (trail : List Item) (clients : List (Option ClientView)) (pages : PagesView) (hub : HubView) (found : Option Fall) (fall : Fall)
+    → hub_of trail limit clients pages ≡ hub → option_map shown_fall found ≡ fall_of (place_in clients who) → found ≡ Some fall → fallen_in hub who ≡ Some (shown_fall fall)
+fell_seen who limit trail clients pages hub found fall view is found_is =
+    subst (λ (h : HubView). fallen_in h who ≡ Some (shown_fall fall)) view (sym is ∙ ap (option_map shown_fall) found_is)
+
+-- room is left for the marks
+pub room_after : (clients : List (Option ClientView)) (reserved left pending wanted seen : ℕ) → length clients ≡ 33 → seen + wanted + 33 ≤ reserved
+    → reserved ≡ left + pending → seen ≡ pending → (room : ℕ) → left ≡ room + wanted → count_up clients ≤ room
+room_after clients reserved left pending wanted seen places enough opened same room touched =
+    room_for_all clients room places (omega (arith, enough, opened, same, touched))
+
+-- what holds where a call ended well
+pub ok_holds : {T E : Type 0} (result : Result T E) (P : Type 0) → is_err result ≡ false → OnOk result P → P
+ok_holds (Ok x) P well holds = holds
+ok_holds (Err e) P failed holds = absurd (true≢false failed)

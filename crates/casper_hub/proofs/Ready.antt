@@ -217,13 +217,13 @@ covers_given hub own wants missing opened opened_own granted ready gives = recor
 
 -- a turn is ready as the server has installed and opened it
 pub ready_for : (who limit : ℕ) (view : HubView) (own installed opened_own : cache.Own) (wants missing listed : List Want) (items trail : List Item) (places : List (Option ClientView)) (pages : PagesView) (opened : HubView)
-    → hub_of trail limit places pages ≡ view → own.client ≡ who → IsSound (hub_of trail limit places pages) → IsPlain (hub_of trail limit places pages) → Owns view own → fallen_in view own.client ≡ None → CanGrant who view own wants missing
+    → hub_of trail limit places pages ≡ view → own.client ≡ who → IsSound (hub_of trail limit places pages) → IsPlain (hub_of trail limit places pages) → Owns view own → fallen_in view who ≡ None → CanGrant who view own wants missing
     → listed ≡ missing → items ≡ trail → installed ≡ record own { held = with_pages pages own.held listed }
     → Opens who (hub_of items limit places pages) installed opened opened_own → Ready (hub_of trail limit places pages) own wants listed opened opened_own
 ready_for who limit view own installed opened_own wants missing listed items trail places pages opened view_is is sound plain owns up can same items_are installed_is opens = record {
   sound = whole (hub_of trail limit places pages) sound plain;
   owns = owning (hub_of trail limit places pages) own sound (subst (λ (h : HubView). Owns h own) (sym view_is) owns)
-      (subst (λ (h : HubView). fallen_in h own.client ≡ None) (sym view_is) up);
+      (ap (fallen_in (hub_of trail limit places pages)) is ∙ subst (λ (h : HubView). fallen_in h who ≡ None) (sym view_is) up);
   can = subst (λ (l : List Want). CanGrant own.client (hub_of trail limit places pages) own wants l) (sym same)
       (subst (λ (w : ℕ). CanGrant w (hub_of trail limit places pages) own wants missing) (sym is) (subst (λ (h : HubView). CanGrant who h own wants missing) (sym view_is) can));
   opens = subst (λ (w : ℕ). Opens w (hub_of trail limit places pages) (record own { held = with_pages pages own.held listed }) opened opened_own) (sym is)

@@ -181,7 +181,7 @@ module _ (hub : HubView) (own : cache.Own) (fallen : FallenView) (fell : fallen_
       same shared shows = ap (served_by shared (own_of own)) (fell_so shared shows) ∙ sym (ap (departed_by shared (own_of own)) (fell_so shared shows))
 
 -- what an acquire answers where a serve answers this
-as_reply : Served → Reply
+abbrev as_reply : Served → Reply
 as_reply served.Ok = reply.Granted
 as_reply (served.RolledBack mark recorded unrecorded) = reply.RolledBack mark recorded unrecorded
 

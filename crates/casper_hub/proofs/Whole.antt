@@ -181,6 +181,11 @@ owning hub own sound owns up = record {
     mine : IsGoodWith shared (own_of own)
     mine = good_with hub (own_of own) owns.good shared shows (stands_for hub sound.stands).good
 
+-- whose cache a hub owns is a client
+pub client_owned : (hub : HubView) (own : cache.Own) → IsSound hub → Owns hub own → IsClient own.client
+client_owned hub own sound owns =
+    let found = stands_for hub sound.stands in (good_with hub (own_of own) owns.good found.shared found.shows found.good).client
+
 -- the machine has not felled such a client either
 pub fallen_shown : (shared : Shared) (hub : HubView) (own : cache.Own) → Shows shared hub → Owning hub own → fallen_at shared own.client ≡ None
 fallen_shown shared hub own shows owns = up_shown shared hub shows own.client owns.up

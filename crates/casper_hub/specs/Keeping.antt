@@ -7,11 +7,11 @@ use Rattle.casper_hub.specs.HubView.{ClientView, PagesView, count_up}
 
 -- what the server keeps beside what contracts see of it: the associations of the trail, and room in the trail for a rollback mark for
 -- each live client that has not fallen, so that a loss takes no memory
-pub record IsKeptUp (trail : TrailView) (limit : ℕ) (associations : AssociationsView) (clients : List (Option ClientView)) (pages : PagesView) : Type 0 where
-  pub limit : trail.limit ≡ limit
-  pub associations : AreAssociationsOf associations trail.items
-  pub pages : pages_in associations ≡ length pages.rights
-  pub room : count_up clients ≤ trail.room
+pub record IsKeptUp (recorded : TrailView) (most : ℕ) (kept : AssociationsView) (clients : List (Option ClientView)) (held : PagesView) : Type 0 where
+  pub limit : recorded.limit ≡ most
+  pub associations : AreAssociationsOf kept recorded.items
+  pub pages : pages_in kept ≡ length held.rights
+  pub room : count_up clients ≤ recorded.room
 
 -- calls of a client that may be recorded: each is on a page of the store, the open writes of which are of the client's association
 pub record MayBeRecorded (items : List Item) (pages : PagesView) (who : ℕ) (calls : List Call) : Type 0 where

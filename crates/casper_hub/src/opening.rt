@@ -2,6 +2,7 @@ ghost use Rattle.std.specs.Prelude.{◌≡◌, ◌≢◌, ◌+◌, ◌-◌, ◌<
 ghost use Rattle.std.specs.List.{list_any};
 ghost use Rattle.casper_words.specs.declared.page.Want.{Want as AnAsk};
 ghost use Rattle.casper_trail.specs.TrailView.{entry_count};
+ghost use Rattle.casper_trail.specs.Clients.{AreOfClients};
 ghost use Rattle.casper_trail.specs.Parts.{as_items};
 ghost use Rattle.casper_trail.specs.Calls.{entries_by};
 ghost use Rattle.casper_dir.specs.Rights.{right_at};
@@ -147,6 +148,7 @@ pub(crate) fn open(
     requires pages { pages_in associations.old ≡ length pages.old.rights }
     requires calls { MayBeRecorded trail.old.items pages.old who cache.old.pending }
     ensures associations { AreAssociationsOf associations.new trail.new.items }
+    ensures clients { AreOfClients trail.new.items }
     ensures pages_stay { pages_in associations.new ≡ pages_in associations.old }
     ensures opens { Opens who (hub_of trail.old.items limit clients.old pages.old) cache.old
         (hub_of trail.new.items limit clients.new pages.new) cache.new }

@@ -1,6 +1,10 @@
 use Rattle.std.proofs.Common.{◌<◌, ◌^◌, ℕ, List, length, Contains, sym, subst, arith}
 use Rattle.casper_words.specs.declared.page.Want.{Want}
 use Rattle.casper_trail.specs.declared.item.Item.{Item}
+use Rattle.casper_trail.specs.Calls.{entries_by}
+use Rattle.casper_trail.specs.Clients.{AreOfClients}
+use Rattle.casper_trail.specs.Parts.{as_items}
+use Rattle.casper_trail.proofs.CallLists.{clients_of_more, clients_of_calls}
 use Rattle.casper_assoc.specs.TrailAssociations.{AreAssociationsOf}
 use Rattle.casper_assoc.proofs.TrailCounts.{open_calls_are_entries}
 use Rattle.casper_hub.specs.Given.{topped}
@@ -71,3 +75,10 @@ returns-clause-associations c =
     (c.record.ensures.associations c.args.trail.now.items
     (clients_recorded (hub_of c.args.trail.now.items c.args.limit c.args.clients.now c.args.pages.now) c.requires.sound.stands)
     c.requires.kept c.requires.calls.writers)
+
+pub returns-clause-clients : goal.returns-clause-clients
+returns-clause-clients c =
+    subst AreOfClients (sym c.record.ensures.trail)
+    (clients_of_more c.args.trail.now.items (as_items (entries_by c.args.who c.args.cache.now.pending))
+    (clients_recorded (hub_of c.args.trail.now.items c.args.limit c.args.clients.now c.args.pages.now) c.requires.sound.stands)
+    (clients_of_calls c.args.who c.args.cache.now.pending c.requires.covers.client))
