@@ -158,8 +158,8 @@ refuse-requires-in-Full-clause-up c = (up_seen c.args.who c.args.who c.self.insi
 pub grant-requires-clause-up : goal.grant-requires-clause-up
 grant-requires-clause-up c = (up_seen c.args.who c.args.who c.self.inside.limit c.self.inside.trail.items c.self.inside.clients c.self.inside.pages c.args.self.now c.fall.result c.self.view_is refl c.fall.ensures c.in_default.not-Some)
 
-pub returns-in_ok-tell-clause-turn : goal.returns-in_ok-tell-clause-turn
-returns-in_ok-tell-clause-turn c =
+pub returns-in-Some-clause-turn : goal.returns-in-Some-clause-turn
+returns-in-Some-clause-turn c =
     told_acquire c.args.self.now c.args.cache.now (shown_fall c.in-Some.fall)
     (ap (fallen_in c.args.self.now) c.requires.client
     ∙ fell_seen c.args.who c.self.inside.limit c.self.inside.trail.items c.self.inside.clients c.self.inside.pages c.args.self.now c.fall.result c.in-Some.fall c.self.view_is c.fall.ensures c.in-Some.is)

@@ -150,8 +150,8 @@ pub tell-requires-clause-fallen : goal.tell-requires-clause-fallen
 tell-requires-clause-fallen c =
     fell_seen c.args.who c.self.inside.limit c.self.inside.trail.items c.self.inside.clients c.self.inside.pages c.args.self.now c.fall.result c.in-Some.fall c.self.view_is c.fall.ensures c.in-Some.is
 
-pub returns-in_ok-tell-clause-turn : goal.returns-in_ok-tell-clause-turn
-returns-in_ok-tell-clause-turn c =
+pub returns-in-Some-clause-turn : goal.returns-in-Some-clause-turn
+returns-in-Some-clause-turn c =
     told_depart c.args.self.now c.args.cache.now (shown_fall c.in-Some.fall)
     (ap (fallen_in c.args.self.now) c.requires.client
     ∙ fell_seen c.args.who c.self.inside.limit c.self.inside.trail.items c.self.inside.clients c.self.inside.pages c.args.self.now c.fall.result c.in-Some.fall c.self.view_is c.fall.ensures c.in-Some.is)

@@ -1,4 +1,4 @@
-use Rattle.std.proofs.Common.{◌≡◌, ◌<◌, ◌∙◌, List, length, sym, ap, subst, Contains}
+use Rattle.std.proofs.Common.{◌≡◌, ◌<◌, ◌≤◌, ◌∙◌, List, length, sym, ap, subst, Contains}
 use Rattle.casper_words.specs.declared.page.Want.{Want}
 use Rattle.casper_cache.specs.Own as cache
 use Rattle.casper_hub.specs.HubView.{HubView, page_count}
@@ -37,7 +37,7 @@ use Rattle.std.specs.Prelude.{None}
 use Rattle.casper_trail.specs.declared.item.Item.{Item}
 use Rattle.casper_assoc.specs.TrailAssociations.{AreAssociationsOf}
 use Rattle.casper_hub.specs.Keeping.{MayBeRecorded}
-use Rattle.casper_hub.specs.HubView.{fallen_in}
+use Rattle.casper_hub.specs.HubView.{fallen_in, cap_in}
 use Rattle.casper_hub.proofs.KeptUp.{room_after, may_record_for}
 use Rattle.casper_hub.proofs.ForClient.{owning_for}
 use Rattle.casper_hub.proofs.hub.Hub.grant.Goals as goal
@@ -47,7 +47,7 @@ use Rattle.casper_dir.specs.Rights.{right_at, conflicts_at}
 use Rattle.casper_cache.specs.declared.held.Held.{Held}
 use Rattle.casper_cache.specs.Holding.{right_of}
 use Rattle.casper_hub.specs.HubView.{place_in, with_asks}
-use Rattle.casper_hub.proofs.Grants.{Made, granting_made, fronted_held, room_ready}
+use Rattle.casper_hub.proofs.Grants.{Made, granting_made, fronted_held, room_ready, cap_ready}
 use Rattle.casper_trail.specs.TrailView.{entry_count}
 use Rattle.casper_hub.proofs.Ready.{Ready, GivesRights, ready_for, installed_sound, missing_held, missing_free, wanted_held, covers_given, rights_given}
 
@@ -290,3 +290,22 @@ open-requires-clause-calls c =
     (whole (hub_of c.self.inside.trail.items c.self.inside.limit c.self.inside.clients c.self.inside.pages) c.self.invariant.0 c.self.invariant.1)
     (owning_for c.args.who (hub_of c.self.inside.trail.items c.self.inside.limit c.self.inside.clients c.self.inside.pages) c.args.cache.now c.requires.client c.self.invariant.0
     (subst (λ (h : HubView). Owns h c.args.cache.now) (sym c.self.view_is) c.requires.owns) (subst (λ (h : HubView). fallen_in h c.args.who ≡ None) (sym c.self.view_is) c.requires.up))))
+
+pub touch_each-requires : goal.touch_each-requires
+touch_each-requires c = record {
+  within = λ want inside.
+      subst (λ n. want.page < n) (sym (c.open.ensures.pages_stay ∙ c.self.invariant.2.pages))
+      (subst (λ (h : HubView). want.page < page_count h) (sym c.self.view_is)
+      (c.requires.range want
+      (contains_passing (is_missing c.args.self.now.pages c.args.self.now.clients c.args.who) c.args.wants.now want
+      (subst (λ (l : List Want). Contains l want) (c.as_slice-missing.ensures.wants ∙ c.requires.grants.missing_is) inside))));
+}
+
+pub overflow_sub-cap : goal.overflow_sub-cap
+overflow_sub-cap c =
+    subst (λ n. length c.as_slice-missing.result.now ≤ n)
+    (ap (cap_in (hub_of c.open.new.trail.items c.self.inside.limit c.open.new.clients c.open.new.pages)) c.requires.client ∙ sym c.cap.ensures)
+    (cap_ready (hub_of c.self.inside.trail.items c.self.inside.limit c.self.inside.clients c.self.inside.pages) c.args.cache.now c.args.wants.now c.as_slice-missing.result.now (hub_of c.open.new.trail.items c.self.inside.limit c.open.new.clients c.open.new.pages) c.open.new.cache
+    (ready_for c.args.who c.self.inside.limit c.args.self.now c.args.cache.now c.install.new.cache c.open.new.cache c.args.wants.now c.args.missing.now c.as_slice-missing.result.now c.reserve.new.self.items c.self.inside.trail.items
+    c.self.inside.clients c.self.inside.pages (hub_of c.open.new.trail.items c.self.inside.limit c.open.new.clients c.open.new.pages)
+    c.self.view_is c.requires.client c.self.invariant.0 c.self.invariant.1 c.requires.owns c.requires.up c.requires.grants c.as_slice-missing.ensures.wants c.reserve.ensures.items c.in_ok-install.ensures.ok c.open.ensures.opens))
