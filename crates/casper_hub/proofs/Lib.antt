@@ -32,6 +32,8 @@ pub mod Recorded
 pub mod Refused
 pub mod Relying
 pub mod RightsHeld
+pub mod RolledBack
+pub mod RolledFrames
 pub mod ServedTurns
 pub mod Showing
 pub mod ShownAfter

@@ -8,6 +8,7 @@ pub mod Installing
 pub mod Owned
 pub mod Places
 pub mod Relying
+pub mod RollingBack
 pub mod Shows
 pub mod Sound
 pub mod Stages
