@@ -20,6 +20,8 @@ pub mod JoinedTurns
 pub mod KeptPages
 pub mod Leaving
 pub mod Left
+pub mod LostKept
+pub mod LostTurns
 pub mod Meeting
 pub mod MissingStays
 pub mod NewHub

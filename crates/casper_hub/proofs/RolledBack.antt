@@ -2,7 +2,7 @@ use Rattle.std.proofs.Common.{◌≡◌, ◌<◌, ◌^◌, ◌++◌, ℕ, List, 
 use Rattle.std.specs.Prelude.{Option, None, Some, IsSome, is_some, option_map, option_and_then}
 use Rattle.std.proofs.Math.Seq.{take-append_seam}
 use Rattle.std.proofs.lemmas.Bool.{false_from_ne_true, and_parts}
-use Rattle.casper_words.specs.Crew.{IsClient, has_member}
+use Rattle.casper_words.specs.Crew.{has_member}
 use Rattle.casper_words.specs.declared.page.Right.{Right}
 use Rattle.casper_words.specs.declared.page.Right.TheVariants as may
 use Rattle.casper_words.specs.declared.page.Want.{Want}
@@ -25,11 +25,11 @@ use Rattle.casper_model.specs.Shared.{Shared, client_at, rights_at, of_client}
 use Rattle.casper_model.specs.Stabilisation.{Stabilisation}
 use Rattle.casper_model.proofs.Places.{client_each, length_each}
 use Rattle.casper_turns.proofs.Lists.{any_found, any_none}
-use Rattle.casper_hub.specs.HubView.{HubView, ClientView, FallenView, client_in, right_in, frame_in, page_count, asks_of}
+use Rattle.casper_hub.specs.HubView.{HubView, ClientView, FallenView, client_in, right_in, frame_in, asks_of}
 use Rattle.casper_hub.specs.RollingBack.{RollsBack, fallen_behind}
-use Rattle.casper_hub.specs.Shows.{permits, fallen_of, Shows, ShowsClient, ShowsLive}
-use Rattle.casper_hub.specs.Sound.{IsSound, IsWellFormed, StandsFor}
-use Rattle.casper_hub.proofs.Changing.{holder_is_client, same_rights}
+use Rattle.casper_hub.specs.Shows.{permits, Shows, ShowsClient, ShowsLive}
+use Rattle.casper_hub.specs.Sound.{IsSound, IsWellFormed}
+use Rattle.casper_hub.proofs.Changing.{same_rights}
 use Rattle.casper_hub.proofs.Relying.{some_reads}
 use Rattle.casper_hub.proofs.ShownAfter.{shown_by_others}
 use Rattle.casper_hub.proofs.StandsFor.{stands_for}

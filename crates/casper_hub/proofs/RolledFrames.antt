@@ -1,6 +1,6 @@
 use Rattle.std.proofs.Common.{◌≡◌, ◌<◌, ◌++◌, ℕ, List, [], ◌∷◌, Bool, true, false, not, cond, refl, sym, ap, ◌∙◌, subst, ⊎_elim, true≢false, Contains}
 use Rattle.std.specs.Prelude.{Option, None, Some, is_some, MatchOption}
-use Rattle.std.proofs.lemmas.Bool.{cases_Bool, false_from_ne_true, not-true}
+use Rattle.std.proofs.lemmas.Bool.{cases_Bool, not-true}
 use Rattle.casper_words.specs.Crew.{has_member}
 use Rattle.casper_trail.specs.declared.entry.Entry.{Entry}
 use Rattle.casper_trail.specs.declared.item.Item.{Item}
@@ -16,10 +16,9 @@ use Rattle.casper_trail.specs.PageLaws.{OpenWritersPass}
 use Rattle.casper_trail.proofs.Images.{stable_without_commit}
 use Rattle.casper_trail.proofs.Pages.{same_values, same_writes_of_a_page, value_after_mark, unmodified_page, page_of_others, page_of_association}
 use Rattle.casper_trail.proofs.Parts.{open_after_mark}
-use Rattle.casper_dir.specs.Rights.{writer_at}
 use Rattle.casper_dir.proofs.EqualRights.{writer_holds_to_write}
 use Rattle.casper_turns.proofs.Lists.{any_none, contains_filter, contains_filtered}
-use Rattle.casper_hub.specs.HubView.{HubView, frame_in, right_in}
+use Rattle.casper_hub.specs.HubView.{HubView, frame_in}
 use Rattle.casper_hub.specs.RollingBack.{RollsBack}
 use Rattle.casper_hub.specs.Sound.{IsSound}
 use Rattle.casper_hub.specs.Words.{live_value, stored_value, AreWords, HasNoOpenWriter, FramesAreRight}

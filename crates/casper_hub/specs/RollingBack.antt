@@ -1,4 +1,4 @@
-use Rattle.std.specs.Prelude.{◌≡◌, ℕ, List, [], ◌∷◌, ◌++◌, not, cond, filter, length, option_map, slice_set, Option, None, Some}
+use Rattle.std.specs.Prelude.{◌≡◌, ℕ, List, [], ◌∷◌, ◌++◌, not, cond, filter, length, option_map, slice_set, None, Some}
 use Rattle.casper_words.specs.Crew.{IsClient, has_member}
 use Rattle.casper_trail.specs.declared.item.Item.{Item}
 use Rattle.casper_trail.specs.declared.item.Item.TheVariants as item
