@@ -71,8 +71,8 @@ stays who hub other apart = get_or-set_other hub.clients who other None None apa
 -- a client without rights that becomes absent is shown as absent
 module _ (who : ℕ) (hub : HubView) (is : IsClient who) (long : length hub.clients ≡ 33) (quiet : hub.stabilisations ≡ [])
     (bare : (page : ℕ) → right_in hub who page ≡ None) where
-  pub absent_shown : (shared : Shared) (own : Own) → own.who ≡ who → Shows shared hub → Shows (absent (record { shared = shared; own = own })).shared (without_client who hub)
-  absent_shown shared own same shows = record {
+  pub shows_absent : (shared : Shared) (own : Own) → own.who ≡ who → Shows shared hub → Shows (absent (record { shared = shared; own = own })).shared (without_client who hub)
+  shows_absent shared own same shows = record {
     trail = shows.trail;
     limit = shows.limit;
     pages = shows.pages;
@@ -171,7 +171,7 @@ fallen_vanishes hub own fallen sound quiet is fell = record {
   replies = λ shared shows. ap (λ (turn : Turned Loss). turn.reply) (sym (same shared shows));
   shows = λ shared shows.
       subst (λ (turn : Turned Loss). Shows turn.shared (without_client own.client hub)) (sym (same shared shows))
-      (absent_shown own.client hub is sound.formed.places quiet (bare_fallen own.client hub fallen sound fell) shared (own_of own) refl shows);
+      (shows_absent own.client hub is sound.formed.places quiet (bare_fallen own.client hub fallen sound fell) shared (own_of own) refl shows);
   owns = λ shared shows. refl;
 }
   where
@@ -190,7 +190,7 @@ lost_vanishes hub middle own sound quiet is up rolls = record {
       ap (λ items. Lost (length items) (length own.pending)) (sym shows.trail) ∙ ap (λ (turn : Turned Loss). turn.reply) (sym (same shared shows));
   shows = λ shared shows.
       subst (λ (turn : Turned Loss). Shows turn.shared (without_client own.client middle)) (sym (same shared shows))
-      (absent_shown own.client middle is (rolls.places ∙ sound.formed.places) (quiet_rolled_back own.client hub middle rolls sound quiet) (bare_rolled_back own.client hub middle sound is rolls)
+      (shows_absent own.client middle is (rolls.places ∙ sound.formed.places) (quiet_rolled_back own.client hub middle rolls sound quiet) (bare_rolled_back own.client hub middle sound is rolls)
       (rolled_back shared own.client) (own_of own) refl (shows_rolled_back own.client hub middle rolls sound shared shows));
   owns = λ shared shows. refl;
 }
