@@ -96,9 +96,9 @@ modified_elsewhere trail more page apart =
     ∙ ap (λ b. is_modified trail page || b) (any_none (writes_page page) more (λ entry inside writes. true≢false (sym writes ∙ apart entry inside)))
     ∙ or-false (is_modified trail page)
 
--- a client of which no outcome is kept and that has not fallen
+-- a client of which no outcome is kept
 abbrev pub IsPlainPlace : Option ClientView → Type 0
-IsPlainPlace place = (client : ClientView) → place ≡ Some client → (client.kept ≡ None) × (client.fallen ≡ None)
+IsPlainPlace place = (client : ClientView) → place ≡ Some client → client.kept ≡ None
 
 -- a hub of which the trail, one client and the pages change
 abbrev pub changed : HubView → List Item → ℕ → Option ClientView → PagesView → HubView
@@ -140,12 +140,12 @@ module _ (hub : HubView) (trail : List Item) (who : ℕ) (place : Option ClientV
       any : (other page : ℕ) → other ≢ who → right_at pages.rights other page ≡ right_at hub.pages.rights other page
       any other page differ = same_rights hub.pages.rights pages.rights page other formed.holders holders (λ is. others other page is differ)
 
-  -- and no client has fallen where that one has not
+  -- and no outcome is kept where none is for that one
   pub plain_changed : IsPlain hub → length hub.clients ≡ 33 → IsClient who → IsPlainPlace place → IsPlain (changed hub trail who place pages)
-  plain_changed plain long client up = record {
+  plain_changed plain long client unkept = record {
     quiet = plain.quiet;
-    up = λ other one is. ⊎_elim
-        (λ same. up one (sym (changed_here long client) ∙ sym (ap (λ (w : ℕ). client_in (changed hub trail who place pages) w) same) ∙ is))
-        (λ differ. plain.up other one (sym (changed_elsewhere other differ) ∙ is))
+    unkept = λ other one is. ⊎_elim
+        (λ same. unkept one (sym (changed_here long client) ∙ sym (ap (λ (w : ℕ). client_in (changed hub trail who place pages) w) same) ∙ is))
+        (λ differ. plain.unkept other one (sym (changed_elsewhere other differ) ∙ is))
         (cases_eq other who);
   }

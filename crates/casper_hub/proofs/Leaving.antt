@@ -9,7 +9,7 @@ use Rattle.casper_hub.specs.Sound.{IsWellFormed, IsPlain}
 use Rattle.casper_hub.proofs.Whole.{Whole, Owning}
 use Rattle.casper_hub.proofs.Relying.{same_held}
 use Rattle.casper_hub.proofs.Changing.{formed_changed, plain_changed}
-use Rattle.casper_hub.proofs.Opened.{Begins, begins_owned, framed_left, seen_without_calls, opened_sound, opened_frames, opened_words}
+use Rattle.casper_hub.proofs.Opened.{Begins, begins_owned, framed_left, seen_without_calls, opened_sound, opened_up, opened_frames, opened_words}
 
 -- what follows where a turn of a client that owns its cache opened, every page was given up, and the client is absent
 
@@ -42,7 +42,7 @@ left_frames base hub own after own_after sound owns leaves frames words =
     (opened_frames base own.client hub own opened leaves.opened_own begins leaves.opens frames words)
     (same_held (seen_value base opened leaves.opened_own) (live_value base opened) leaves.opened_own.held
     (λ page word held.
-    seen_without_calls base opened leaves.opened_own (opened_before_leaving hub own after own_after sound owns leaves).plain (ap (λ (o : cache.Own). o.pending) leaves.opens.own_is) page word)
+    seen_without_calls base opened leaves.opened_own (opened_up own.client hub own opened leaves.opened_own begins leaves.opens) (ap (λ (o : cache.Own). o.pending) leaves.opens.own_is) page word)
     (opened_words base own.client hub own opened leaves.opened_own begins leaves.opens words)))
   where
     opened : HubView

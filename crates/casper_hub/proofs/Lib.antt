@@ -18,6 +18,7 @@ pub mod Installed
 pub mod Installing
 pub mod JoinedTurns
 pub mod KeptPages
+pub mod KeptUp
 pub mod Leaving
 pub mod Left
 pub mod LostKept
@@ -43,6 +44,7 @@ pub mod ShownPlaces
 pub mod Standing
 pub mod StandsFor
 pub mod Supplied
+pub mod Told
 pub mod Touched
 pub mod Transport
 pub mod Whole

@@ -30,7 +30,7 @@ use Rattle.casper_hub.specs.Shows.{permits}
 use Rattle.casper_hub.specs.Given.{Covers, GivesUp, Falls, left_of, kept_as, topped}
 use Rattle.casper_hub.specs.Stages.{Opens}
 use Rattle.casper_hub.specs.Sound.{IsWellFormed, IsPlain}
-use Rattle.casper_hub.proofs.Whole.{Whole, Owning, nobody_fell, fallen_of_place}
+use Rattle.casper_hub.proofs.Whole.{Whole, Owning}
 use Rattle.casper_hub.proofs.ServedTurns.{opened_whole}
 use Rattle.casper_hub.proofs.Showing.{allows_right}
 use Rattle.casper_hub.proofs.Left.{entry_of-kept, distinct-kept}
@@ -42,11 +42,12 @@ use Rattle.casper_hub.proofs.Changing.{IsPlainPlace, live_elsewhere, stored_stay
 abbrev pub WritesAreHeld : ℕ → PagesView → List Call → Type 0
 WritesAreHeld who pages calls = (call : Call) → Contains calls call → is_write call.op ≡ true → right_at pages.rights who call.page ≡ Some may.Write
 
--- what a turn finds as it opens: a sound hub, where the client is live with the cap of its cache, and a cache that covers its rights and
+-- what a turn finds as it opens: a sound hub, where the client is live, has not fallen and has the cap of its cache, and a cache that covers its rights and
 -- has room for its pending calls, whose writes have their rights
 pub record Begins (who : ℕ) (hub : HubView) (own : cache.Own) : Type 0 where
   pub sound : Whole hub
   pub live : is_live hub who ≡ true
+  pub up : fallen_in hub own.client ≡ None
   pub cap : cap_in hub who ≡ own.cap
   pub client : own.client ≡ who
   pub covers : Covers who hub.pages own.held
@@ -66,17 +67,16 @@ covers_owned hub own sound owns = record {
   holders = sound.holders;
   frames_count = sound.frames;
   distinct = owns.sound.distinct;
-  held_so = λ page right is. sym (owns.rights (nobody_fell hub own.client sound) page) ∙ is;
+  held_so = λ page right is. sym (owns.rights page) ∙ is;
   framed = λ page is. sound.framed own.client page is;
 }
 
 -- and its pending writes have their rights
 pub writes_owned : (hub : HubView) (own : cache.Own) → Whole hub → Owning hub own → WritesAreHeld own.client hub.pages own.pending
 writes_owned hub own sound owns call inside writes =
-    let up : fallen_in hub own.client ≡ None = nobody_fell hub own.client sound in
-    owns.rights up call.page
+    owns.rights call.page
     ∙ writes_permitted (right_of call.page own.held)
-    (ap (permits (right_of call.page own.held)) (sym (needs call.op writes)) ∙ sym (allows_right own.held owns.sound.distinct call.page (right_for call.op)) ∙ owns.calls up call inside)
+    (ap (permits (right_of call.page own.held)) (sym (needs call.op writes)) ∙ sym (allows_right own.held owns.sound.distinct call.page (right_for call.op)) ∙ owns.calls call inside)
   where
     needs : (act : Op) → is_write act ≡ true → right_for act ≡ may.Write
     needs op.Read e = absurd (true≢false (sym e))
@@ -87,6 +87,7 @@ pub begins_owned : (hub : HubView) (own : cache.Own) → Whole hub → Owning hu
 begins_owned hub own sound owns = record {
   sound = sound;
   live = owns.live;
+  up = owns.up;
   cap = owns.cap;
   client = refl;
   covers = covers_owned hub own sound owns;
@@ -111,7 +112,12 @@ pub plain_with_cap : (cap : ℕ) (place : Option ClientView) → IsPlainPlace pl
 plain_with_cap cap None plain client e = cc
 plain_with_cap cap (Some shown) plain client e =
     let same : record shown { cap = cap } ≡ client = cc in
-    subst (λ (c : ClientView). (c.kept ≡ None) × (c.fallen ≡ None)) same (plain shown refl)
+    subst (λ (c : ClientView). c.kept ≡ None) same (plain shown refl)
+
+pub fallen_with_cap : (cap : ℕ) (place : Option ClientView)
+    → option_and_then (λ (client : ClientView). client.fallen) (with_cap cap place) ≡ option_and_then (λ (client : ClientView). client.fallen) place
+fallen_with_cap cap None = refl
+fallen_with_cap cap (Some client) = refl
 
 -- what a client keeps for writing is framed
 pub framed_left : (who : ℕ) (hub : HubView) (held held_after : List Held) (after : PagesView) → Whole hub → GivesUp who hub.pages held after held_after
@@ -119,7 +125,7 @@ pub framed_left : (who : ℕ) (hub : HubView) (held held_after : List Held) (aft
 framed_left who hub held held_after after sound gives page is =
     gives.framed page (sound.framed who page (writes_before (right_at hub.pages.rights who page) (right_at after.rights who page) (gives.falls page) is))
 
--- once a turn has opened the parts of the hub fit together, and no client has fallen
+-- once a turn has opened the parts of the hub fit together, no outcome is kept, and its client has not fallen
 module _ (who : ℕ) (hub : HubView) (own : cache.Own) (after : HubView) (own_after : cache.Own) (begins : Begins who hub own) (opens : Opens who hub own after own_after) where
   abbrev opened_place : Option ClientView
   opened_place = with_cap (topped own (free_in hub)) (client_in hub who)
@@ -136,7 +142,7 @@ module _ (who : ℕ) (hub : HubView) (own : cache.Own) (after : HubView) (own_af
   opened_plain =
       subst IsPlain (sym opens.hub_is)
       (plain_changed hub (hub.trail ++ as_items (entries_by who own.pending)) who opened_place after.pages begins.sound.plain begins.sound.places begins.covers.client
-      (plain_with_cap (topped own (free_in hub)) (client_in hub who) (begins.sound.up who)))
+      (plain_with_cap (topped own (free_in hub)) (client_in hub who) (begins.sound.unkept who)))
 
 -- so the hub is sound
 pub opened_sound : (hub : HubView) (own : cache.Own) (held : List Held) (after : HubView) (own_after : cache.Own) → Begins own.client hub (record own { held = held })
@@ -179,14 +185,32 @@ opened_seen base who hub own after own_after begins opens page word =
     ap (λ (h : HubView). live_value base h page word) opens.hub_is
     ∙ ap (λ (entries : List Entry). value_of base entries page word) (live_of_more_entries hub.trail (entries_by who own.pending))
     ∙ ap (λ (w : ℕ). value_of base (live_entries hub.trail ++ entries_by w own.pending) page word) (sym begins.client)
-    ∙ sym (ap (λ fell. value_of base (live_entries (items_behind hub.trail fell) ++ entries_by own.client own.pending) page word) (nobody_fell hub own.client begins.sound))
+    ∙ sym (ap (λ fell. value_of base (live_entries (items_behind hub.trail fell) ++ entries_by own.client own.pending) page word) begins.up)
 
--- without pending calls a client sees the live entries
-pub seen_without_calls : (base : List (List ℕ)) (hub : HubView) (own : cache.Own) → IsPlain hub → own.pending ≡ []
+-- without pending calls a client that has not fallen sees the live entries
+pub seen_without_calls : (base : List (List ℕ)) (hub : HubView) (own : cache.Own) → fallen_in hub own.client ≡ None → own.pending ≡ []
     → (page word : ℕ) → seen_value base hub own page word ≡ live_value base hub page word
-seen_without_calls base hub own plain none page word =
-    seen_plain base hub own page word (fallen_of_place (client_in hub own.client) (λ client is. (plain.up own.client client is).1))
+seen_without_calls base hub own up none page word =
+    seen_plain base hub own page word up
     ∙ ap (λ (calls : List Call). fold (value_after page word) (live_value base hub page word) (entries_by own.client calls)) none
+
+-- what the server knows of the client once its turn has opened
+pub opened_client : (who : ℕ) (hub : HubView) (own : cache.Own) (after : HubView) (own_after : cache.Own) → Begins who hub own → Opens who hub own after own_after
+    → client_in after who ≡ with_cap (topped own (free_in hub)) (client_in hub who)
+opened_client who hub own after own_after begins opens =
+    let most = begins.covers.client.1 in
+    let long = begins.sound.places in
+    let below : who < length hub.clients = omega arith in
+    ap (λ (h : HubView). client_in h who) opens.hub_is
+    ∙ get_or-set_same hub.clients who (with_cap (topped own (free_in hub)) (client_in hub who)) None below
+
+-- and that it has not fallen
+pub opened_up : (who : ℕ) (hub : HubView) (own : cache.Own) (after : HubView) (own_after : cache.Own) → Begins who hub own → Opens who hub own after own_after
+    → fallen_in after own_after.client ≡ None
+opened_up who hub own after own_after begins opens =
+    ap (fallen_in after) (ap (λ (o : cache.Own). o.client) opens.own_is ∙ begins.client)
+    ∙ ap (option_and_then (λ (client : ClientView). client.fallen)) (opened_client who hub own after own_after begins opens)
+    ∙ fallen_with_cap (topped own (free_in hub)) (client_in hub who) ∙ ap (fallen_in hub) (sym begins.client) ∙ begins.up
 
 pub opened_frames : (base : List (List ℕ)) (who : ℕ) (hub : HubView) (own : cache.Own) (after : HubView) (own_after : cache.Own) → Begins who hub own → Opens who hub own after own_after
     → FramesAreRight base hub → CacheIsRight base hub own → FramesAreRight base after
@@ -220,21 +244,11 @@ opened_words base who hub own after own_after begins opens words =
     (held_right_kept (seen_value base after own_after) (right_at hub.pages.rights who) (right_at after.pages.rights who) own.held
     (same_held (seen_value base hub own) (seen_value base after own_after) own.held
     (λ page word held.
-    sym (seen_without_calls base after own_after (opened_plain who hub own after own_after begins opens) (ap (λ (o : cache.Own). o.pending) opens.own_is) page word
+    sym (seen_without_calls base after own_after (opened_up who hub own after own_after begins opens) (ap (λ (o : cache.Own). o.pending) opens.own_is) page word
     ∙ opened_seen base who hub own after own_after begins opens page word))
     words))
 
--- what the server knows of the client once its turn has opened
-pub opened_client : (who : ℕ) (hub : HubView) (own : cache.Own) (after : HubView) (own_after : cache.Own) → Begins who hub own → Opens who hub own after own_after
-    → client_in after who ≡ with_cap (topped own (free_in hub)) (client_in hub who)
-opened_client who hub own after own_after begins opens =
-    let most = begins.covers.client.1 in
-    let long = begins.sound.places in
-    let below : who < length hub.clients = omega arith in
-    ap (λ (h : HubView). client_in h who) opens.hub_is
-    ∙ get_or-set_same hub.clients who (with_cap (topped own (free_in hub)) (client_in hub who)) None below
-
--- and that it is live with the cap of its cache
+-- and it is live with the cap of its cache
 pub opened_live : (who : ℕ) (hub : HubView) (own : cache.Own) (after : HubView) (own_after : cache.Own) → Begins who hub own → Opens who hub own after own_after → is_live after who ≡ true
 opened_live who hub own after own_after begins opens =
     ap is_some (opened_client who hub own after own_after begins opens) ∙ live_with_cap (topped own (free_in hub)) (client_in hub who) ∙ begins.live
@@ -301,5 +315,5 @@ module _ (hub : HubView) (own : cache.Own) (after : HubView) (own_after : cache.
   -- and its rights are those of its client
   pub opened_rights : Whole hub → (page : ℕ) → right_at after.pages.rights own.client page ≡ right_of page own_after.held
   opened_rights sound page =
-      rights_left (right_at hub.pages.rights own.client) (right_at after.pages.rights own.client) own.held (owns.rights (nobody_fell hub own.client sound)) opens.gives.falls page
+      rights_left (right_at hub.pages.rights own.client) (right_at after.pages.rights own.client) own.held owns.rights opens.gives.falls page
       ∙ sym (ap (right_of page) opens.gives.held_is)

@@ -5,6 +5,7 @@ pub mod GoesOn
 pub mod HubFields
 pub mod HubView
 pub mod Installing
+pub mod Keeping
 pub mod Owned
 pub mod Places
 pub mod Relying

@@ -11,6 +11,7 @@ mod laws;
 mod leave;
 mod opening;
 mod pages;
+mod tell;
 
 pub use hub::Hub;
 pub use laws::{hit_laws, relying_laws, standing_laws};
