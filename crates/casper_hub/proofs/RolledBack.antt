@@ -25,8 +25,8 @@ use Rattle.casper_model.specs.Shared.{Shared, client_at, rights_at, of_client}
 use Rattle.casper_model.specs.Stabilisation.{Stabilisation}
 use Rattle.casper_model.proofs.Places.{client_each, length_each}
 use Rattle.casper_turns.proofs.Lists.{any_found, any_none}
-use Rattle.casper_hub.specs.HubView.{HubView, ClientView, FallenView, client_in, right_in, frame_in, asks_of}
-use Rattle.casper_hub.specs.RollingBack.{RollsBack, fallen_behind}
+use Rattle.casper_hub.specs.HubView.{HubView, ClientView, FallenView, client_in, right_in, frame_in, asks_of, felled}
+use Rattle.casper_hub.specs.RollingBack.{RollsBack, fall_behind}
 use Rattle.casper_hub.specs.Shows.{permits, Shows, ShowsClient, ShowsLive}
 use Rattle.casper_hub.specs.Sound.{IsSound, IsWellFormed}
 use Rattle.casper_hub.proofs.Changing.{same_rights}
@@ -43,7 +43,7 @@ fall_seeing items who seen = Some (record { mark = length items; dropped = dropp
 
 -- a client that falls is shown as it falls
 falling_shows : (trail : List Item) (mark : Item) (who : ℕ) (client : Client) (shown : ClientView) → ShowsLive trail client shown
-    → ShowsLive (trail ++ mark ∷ []) (machine.fallen_behind trail who client) (fallen_behind trail who shown)
+    → ShowsClient (trail ++ mark ∷ []) (Some (machine.fallen_behind trail who client)) (felled (fall_behind trail who) (Some shown))
 falling_shows trail mark who client shown shows = record {
   cap = shows.cap;
   asks = refl;
@@ -62,8 +62,9 @@ rights_left trail who false (Some client) page right = refl
 
 -- the asks that are left were asks before
 asks_left : (trail : List Item) (who : ℕ) (member : Bool) (place : Option ClientView) (ask : Want)
-    → Contains (asks_of (option_map (λ client. cond member (fallen_behind trail who client) client) place)) ask → Contains (asks_of place) ask
-asks_left trail who member None ask inside = inside
+    → Contains (asks_of (cond member (felled (fall_behind trail who) place) place)) ask → Contains (asks_of place) ask
+asks_left trail who true None ask inside = inside
+asks_left trail who false None ask inside = inside
 asks_left trail who true (Some client) ask inside = absurd (omega (arith, inside.1))
 asks_left trail who false (Some client) ask inside = inside
 
@@ -89,12 +90,13 @@ module _ (lost : ℕ) (hub after : HubView) (rolls : RollsBack lost hub after) (
       → ((client : ClientView) (fallen : FallenView) → shown ≡ Some client → client.fallen ≡ Some fallen → fallen.mark < length hub.trail)
       → ShowsClient hub.trail place shown
       → ShowsClient after.trail (option_map (λ client. cond member (machine.fallen_behind hub.trail who client) client) place)
-      (option_map (λ client. cond member (fallen_behind hub.trail who client) client) shown)
-  client_shown who member None None marked shows = shows
+      (cond member (felled (fall_behind hub.trail who) shown) shown)
+  client_shown who true None None marked shows = shows
+  client_shown who false None None marked shows = shows
   client_shown who member None (Some shown) marked shows = absurd shows
   client_shown who member (Some client) None marked shows = absurd shows
   client_shown who true (Some client) (Some shown) marked shows =
-      subst (λ items. ShowsLive items (machine.fallen_behind hub.trail who client) (fallen_behind hub.trail who shown)) (sym rolls.trail)
+      subst (λ items. ShowsClient items (Some (machine.fallen_behind hub.trail who client)) (felled (fall_behind hub.trail who) (Some shown))) (sym rolls.trail)
       (falling_shows hub.trail mark who client shown shows)
   client_shown who false (Some client) (Some shown) marked shows = shown_by_others hub after (mark ∷ []) rolls.trail (Some client) (Some shown) marked shows
 
@@ -187,7 +189,9 @@ module _ (lost : ℕ) (hub after : HubView) (rolls : RollsBack lost hub after) (
   unkept_rolled_back unkept who client is = by_place (has_member who members) (client_in hub who) (unkept who) (sym (rolls.clients who) ∙ is)
     where
       by_place : (member : Bool) (place : Option ClientView) → ((one : ClientView) → place ≡ Some one → one.kept ≡ None)
-          → option_map (λ one. cond member (fallen_behind hub.trail who one) one) place ≡ Some client → client.kept ≡ None
-      by_place member None none e = cc
-      by_place true (Some one) none e = let same : fallen_behind hub.trail who one ≡ client = cc in ap (λ (c : ClientView). c.kept) (sym same) ∙ none one refl
+          → cond member (felled (fall_behind hub.trail who) place) place ≡ Some client → client.kept ≡ None
+      by_place true None none e = cc
+      by_place false None none e = cc
+      by_place true (Some one) none e =
+          let same : record one { asks = []; fallen = Some (fall_behind hub.trail who) } ≡ client = cc in ap (λ (c : ClientView). c.kept) (sym same) ∙ none one refl
       by_place false (Some one) none e = none client e

@@ -1,4 +1,4 @@
-use Rattle.std.specs.Prelude.{◌≡◌, ℕ, List, [], ◌∷◌, ◌++◌, not, cond, filter, length, option_map, slice_set, None, Some}
+use Rattle.std.specs.Prelude.{◌≡◌, ℕ, List, [], ◌∷◌, ◌++◌, not, cond, filter, length, slice_set, None}
 use Rattle.casper_words.specs.Crew.{IsClient, has_member}
 use Rattle.casper_trail.specs.declared.item.Item.{Item}
 use Rattle.casper_trail.specs.declared.item.Item.TheVariants as item
@@ -9,12 +9,12 @@ use Rattle.casper_dir.specs.Rights.{AreAllClients}
 use Rattle.casper_model.specs.Both.{Changed}
 use Rattle.casper_model.specs.Loss.{dropped_of}
 use Rattle.casper_model.specs.Shared.{Shared}
-use Rattle.casper_hub.specs.HubView.{HubView, ClientView, client_in, right_in, frame_in, page_count}
+use Rattle.casper_hub.specs.HubView.{HubView, FallenView, client_in, right_in, frame_in, page_count, felled}
 use Rattle.casper_hub.specs.Shows.{Shows}
 
--- a live client that falls by a mark after these items: its asks are gone, and its cap and what is kept for it stay
-abbrev pub fallen_behind : List Item → ℕ → ClientView → ClientView
-fallen_behind items who client = record client { asks = []; fallen = Some (record { mark = length items; dropped = dropped_of items who }) }
+-- the fall of a client by a mark after these items
+abbrev pub fall_behind : List Item → ℕ → FallenView
+fall_behind items who = record { mark = length items; dropped = dropped_of items who }
 
 -- the association of a lost client was rolled back: the mark is recorded, each live member falls, a stabilisation of theirs ends, no
 -- member has a right, and the server has no frame of a page that one of them modified. All else stays
@@ -23,7 +23,7 @@ pub record RollsBack (lost : ℕ) (hub after : HubView) : Type 0 where
   pub limit : after.limit ≡ hub.limit
   pub places : length after.clients ≡ length hub.clients
   pub clients : (who : ℕ) → client_in after who
-      ≡ option_map (λ client. cond (has_member who (association_of hub.trail lost)) (fallen_behind hub.trail who client) client) (client_in hub who)
+      ≡ cond (has_member who (association_of hub.trail lost)) (felled (fall_behind hub.trail who) (client_in hub who)) (client_in hub who)
   pub stabilisations : after.stabilisations ≡ filter (λ one. not (has_member one.lead (association_of hub.trail lost))) hub.stabilisations
   pub pages : page_count after ≡ page_count hub
   pub holders : AreAllClients after.pages.rights
