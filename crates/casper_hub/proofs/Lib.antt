@@ -21,6 +21,8 @@ pub mod KeptPages
 pub mod KeptUp
 pub mod Leaving
 pub mod Left
+pub mod LostKept
+pub mod LostTurns
 pub mod Meeting
 pub mod MissingStays
 pub mod NewHub
@@ -33,6 +35,8 @@ pub mod Recorded
 pub mod Refused
 pub mod Relying
 pub mod RightsHeld
+pub mod RolledBack
+pub mod RolledFrames
 pub mod ServedTurns
 pub mod Showing
 pub mod ShownAfter

@@ -9,6 +9,7 @@ pub mod Keeping
 pub mod Owned
 pub mod Places
 pub mod Relying
+pub mod RollingBack
 pub mod Shows
 pub mod Sound
 pub mod Stages
