@@ -1,12 +1,11 @@
-use Rattle.std.specs.Prelude.{◌≡◌, ◌<◌, ◌≤◌, ◌↔◌, ◌∷◌, ◌++◌, [], ℕ, true, List, Contains, Some, length, map, slice_index, count_by}
+use Rattle.std.specs.Prelude.{◌≡◌, ◌<◌, ◌∷◌, ◌++◌, [], ℕ, List, Contains, length, map, slice_index, count_by}
 use Rattle.casper_words.specs.declared.call.Call.{Call}
 use Rattle.casper_words.specs.declared.page.Want.{Want}
-use Rattle.casper_words.specs.Crew.{IsClient, has_member}
+use Rattle.casper_words.specs.Crew.{IsClient}
 use Rattle.casper_trail.specs.declared.entry.Entry.{Entry}
 use Rattle.casper_trail.specs.declared.mark.Mark.{Mark}
 use Rattle.casper_trail.specs.declared.item.Item.{Item}
 use Rattle.casper_trail.specs.declared.item.Item.TheVariants as item
-use Rattle.casper_trail.specs.Value.{writes_page}
 use Rattle.casper_trail.specs.Parts.{open_entries, as_items}
 use Rattle.casper_trail.specs.Calls.{is_call_of, entries_by, touch_by}
 use Rattle.casper_trail.specs.Clients.{AreOfClients}

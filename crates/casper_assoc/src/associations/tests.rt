@@ -63,7 +63,11 @@ fn touch(all: &mut Associations, who: Who, page: u32) -> Option<()>
 /// How many members the association of client 2 has, how many open calls the client has, and how many pages it labelled.
 fn shown(all: &Associations) -> Option<(u32, u32, usize)> {
     let two = Who::new(2)?;
-    Some((all.members(two).count(), all.open_calls(two), all.written(two).len()))
+    Some((
+        all.members(two).count(),
+        all.open_calls(two),
+        all.written(two).len(),
+    ))
 }
 
 #[test]

@@ -1,5 +1,4 @@
-use Rattle.std.proofs.Common.{refl, ℕ, ◌<◌, length, List, sym, subst, set, get_or, ◌+◌}
-use Rattle.casper_words.specs.declared.call.Call.{Call}
+use Rattle.std.proofs.Common.{refl, sym, subst, set, get_or, ◌+◌}
 use Rattle.casper_assoc.specs.TrailAssociations.{AssociationsView, CallsAreWithin, RecordsCalls}
 use Rattle.casper_assoc.proofs.TrailAssociations.{recorded_at}
 use Rattle.casper_assoc.proofs.associations.Associations.record.Goals as goal
