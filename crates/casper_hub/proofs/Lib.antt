@@ -5,7 +5,9 @@ pub mod Blocking
 pub mod Changing
 pub mod Deciding
 pub mod DepartedTurns
+pub mod Felling
 pub mod ForClient
+pub mod Forgotten
 pub mod Giving
 pub mod GrantedHeld
 pub mod GrantedRights

@@ -20,10 +20,10 @@ use Rattle.casper_turns.specs.Good.{IsGoodShared}
 use Rattle.casper_turns.proofs.Lists.{not_some}
 use Rattle.casper_hub.specs.HubView.{HubView, ClientView, FallenView, client_in, fallen_in, right_in}
 use Rattle.casper_hub.specs.Owned.{own_of}
-use Rattle.casper_hub.specs.RollingBack.{RollsBack, IsChange, without_client}
+use Rattle.casper_hub.specs.RollingBack.{RollsBack, without_client}
 use Rattle.casper_hub.specs.Shows.{permits, fallen_of, Shows, ShowsClient}
 use Rattle.casper_hub.specs.Sound.{IsSound, IsWellFormed}
-use Rattle.casper_hub.specs.Turns.{IsTurn}
+use Rattle.casper_hub.specs.Turns.{IsTurn, IsChange}
 use Rattle.casper_hub.specs.Words.{FramesAreRight}
 use Rattle.casper_hub.proofs.Changing.{formed_changed}
 use Rattle.casper_hub.proofs.RolledBack.{revoked, shows_rolled_back, quiet_rolled_back}

@@ -1,5 +1,6 @@
 pub mod Asks
 pub mod Deciding
+pub mod Felling
 pub mod Given
 pub mod GoesOn
 pub mod HubFields

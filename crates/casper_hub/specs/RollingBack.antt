@@ -6,11 +6,8 @@ use Rattle.casper_trail.specs.declared.mark.Mark.TheVariants.{Rollback}
 use Rattle.casper_trail.specs.Association.{association_of}
 use Rattle.casper_trail.specs.Modified.{is_modified_by}
 use Rattle.casper_dir.specs.Rights.{AreAllClients}
-use Rattle.casper_model.specs.Both.{Changed}
 use Rattle.casper_model.specs.Loss.{dropped_of}
-use Rattle.casper_model.specs.Shared.{Shared}
 use Rattle.casper_hub.specs.HubView.{HubView, FallenView, client_in, right_in, frame_in, page_count, felled}
-use Rattle.casper_hub.specs.Shows.{Shows}
 
 -- the fall of a client by a mark after these items
 abbrev pub fall_behind : List Item → ℕ → FallenView
@@ -35,9 +32,3 @@ pub record RollsBack (lost : ℕ) (hub after : HubView) : Type 0 where
 -- a hub of which one client became absent
 abbrev pub without_client : ℕ → HubView → HubView
 without_client who hub = record hub { clients = slice_set hub.clients who None }
-
--- a change of the machine that is no turn of a client was made: whatever shared part the hub stands for, the reply and the hub after
--- it are those that the change gives
-pub record IsChange {R : Type 0} (change : Shared → Changed R) (reply : R) (hub after : HubView) : Type 0 where
-  pub replies : (shared : Shared) → Shows shared hub → reply ≡ (change shared).reply
-  pub shows : (shared : Shared) → Shows shared hub → Shows (change shared).shared after

@@ -9,6 +9,7 @@ mod hub;
 mod install;
 mod laws;
 mod leave;
+mod lose;
 mod opening;
 mod pages;
 mod tell;
