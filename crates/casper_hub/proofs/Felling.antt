@@ -1,5 +1,5 @@
 use Rattle.std.proofs.Common.{◌≡◌, ◌≢◌, ◌<◌, ◌≤◌, ◌+◌, ℕ, zero, suc, List, [], ◌∷◌, Bool, true, false, cond, ◌&&◌, nat_lt, length, length-set, get_or-set_same, get_or-set_other, refl, sym, ap, ap₂, ◌∙◌, subst, ⊎_elim, true≢false, arith}
-use Rattle.std.specs.Prelude.{Option, None, Some, is_some, is_none, option_map, slice_set}
+use Rattle.std.specs.Prelude.{Option, None, Some, is_some, is_none, slice_set}
 use Rattle.std.proofs.lemmas.List.Sums.{sum_by-cons}
 use Rattle.std.proofs.lemmas.Bool.{cases_eq, lt-ltb}
 use Rattle.casper_words.specs.Crew.{has_member}
@@ -9,7 +9,7 @@ use Rattle.casper_trail.proofs.Rounds.{member_is_client}
 use Rattle.casper_hub.specs.HubView.{ClientView, FallenView, place_in, fall_of, felled, is_up, count_up}
 use Rattle.casper_model.specs.Loss.{dropped_of}
 use Rattle.casper_hub.specs.Felling.{is_among}
-use Rattle.casper_hub.specs.RollingBack.{fallen_behind}
+use Rattle.casper_hub.specs.RollingBack.{fall_behind}
 
 -- Members of an association fall, one after another.
 
@@ -21,7 +21,9 @@ pub among_here : (members : List ℕ) (number : ℕ) → 0 < number → has_memb
 among_here members number least member = ap₂ (λ a b. a && (b && has_member number members)) (lt-ltb 0 number least) (lt-ltb number (number + 1) (omega arith)) ∙ member
 
 among_not_yet : (members : List ℕ) (number : ℕ) → is_among number members number ≡ false
-among_not_yet members number = ap (λ b. nat_lt 0 number && (b && has_member number members)) (grind arith) ∙ never (nat_lt 0 number)
+among_not_yet members number =
+    let never_below : nat_lt number number ≡ false = grind arith in
+    ap (λ b. nat_lt 0 number && (b && has_member number members)) never_below ∙ never (nat_lt 0 number)
   where
     never : (a : Bool) → (a && false) ≡ false
     never true = refl
@@ -38,7 +40,9 @@ among_out number members who out = ap (λ b. nat_lt 0 who && (nat_lt who number 
 -- no number is among those below the first
 pub among_none : (members : List ℕ) (who : ℕ) → is_among 1 members who ≡ false
 among_none members zero = refl
-among_none members (suc who) = ap (λ b. nat_lt 0 (suc who) && (b && has_member (suc who) members)) (grind arith) ∙ never (nat_lt 0 (suc who))
+among_none members (suc who) =
+    let never_below : nat_lt (suc who) 1 ≡ false = grind arith in
+    ap (λ b. nat_lt 0 (suc who) && (b && has_member (suc who) members)) never_below ∙ never (nat_lt 0 (suc who))
   where
     never : (a : Bool) → (a && false) ≡ false
     never true = refl
@@ -109,7 +113,7 @@ one_of_each : (was is : Bool) (before after : ℕ) → (is ≡ true → was ≡ 
 one_of_each true true before after falls rest = omega (arith, rest)
 one_of_each true false before after falls rest = omega (arith, rest)
 one_of_each false true before after falls rest = absurd (true≢false (sym (falls refl)))
-one_of_each false false before after falls rest = rest
+one_of_each false false before after falls rest = omega (arith, rest)
 
 -- no more are up
 pub fewer_up : (before after : List (Option ClientView)) → length after ≡ length before → ((at : ℕ) → is_up (place_in after at) ≡ true → is_up (place_in before at) ≡ true)
@@ -157,17 +161,14 @@ was_up false fallen place up = up
 -- what a fall leaves of a place, by the mark's place and the calls that it dropped
 pub fell_so : (among member : Bool) (place : Option ClientView) (mark dropped : ℕ) (items : List Item) (who : ℕ) → among ≡ member → mark ≡ length items
     → (member ≡ true → dropped ≡ dropped_of items who)
-    → cond among (felled (record { mark = mark; dropped = dropped }) place) place ≡ option_map (λ client. cond member (fallen_behind items who client) client) place
+    → cond among (felled (record { mark = mark; dropped = dropped }) place) place ≡ cond member (felled (fall_behind items who) place) place
 fell_so among member place mark dropped items who same at counted =
-    ap (λ b. cond b (felled (record { mark = mark; dropped = dropped }) place) place) same ∙ by member place (λ is. counted is)
+    ap (λ b. cond b (felled (record { mark = mark; dropped = dropped }) place) place) same ∙ by member counted
   where
-    by : (member : Bool) (place : Option ClientView) → (member ≡ true → dropped ≡ dropped_of items who)
-        → cond member (felled (record { mark = mark; dropped = dropped }) place) place ≡ option_map (λ client. cond member (fallen_behind items who client) client) place
-    by false None count = refl
-    by false (Some client) count = refl
-    by true None count = refl
-    by true (Some client) count =
-        ap₂ (λ m d. Some (record client { asks = []; fallen = Some (record { mark = m; dropped = d }) })) at (count refl)
+    by : (member : Bool) → (member ≡ true → dropped ≡ dropped_of items who)
+        → cond member (felled (record { mark = mark; dropped = dropped }) place) place ≡ cond member (felled (fall_behind items who) place) place
+    by false count = refl
+    by true count = ap₂ (λ m d. felled (record { mark = m; dropped = d }) place) at (count refl)
 
 -- no more are up without one
 pub fewer_up_without : (places : List (Option ClientView)) (who : ℕ) → count_up (slice_set places who None) ≤ count_up places

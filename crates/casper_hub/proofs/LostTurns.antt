@@ -62,7 +62,7 @@ lost_now who hub after sound quiet up rolls = record {
     same shared shows = ap (lose_by shared who) (up_shown shared hub shows who up) ∙ loss_at_once shared hub who 0 shows quiet
 
 -- the place of a client that became absent, and every other
-gone : (who : ℕ) (hub : HubView) → IsClient who → length hub.clients ≡ 33 → client_in (without_client who hub) who ≡ None
+pub gone : (who : ℕ) (hub : HubView) → IsClient who → length hub.clients ≡ 33 → client_in (without_client who hub) who ≡ None
 gone who hub is long = get_or-set_same hub.clients who None None (let most = is.1 in omega (arith, most, long))
 
 stays : (who : ℕ) (hub : HubView) (other : ℕ) → other ≢ who → client_in (without_client who hub) other ≡ client_in hub other

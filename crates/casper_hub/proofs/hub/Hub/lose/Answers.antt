@@ -24,31 +24,31 @@ returns-in-Some-clause-others c other = kept_itself other c.args.self.now
 pub returns-in-Some-clause-still : goal.returns-in-Some-clause-still
 returns-in-Some-clause-still c = nothing_itself c.args.self.now
 
-pub roll_back-requires-clause-up : goal.roll_back-requires-clause-up
-roll_back-requires-clause-up c = (up_seen c.args.who c.args.who c.self.inside.limit c.self.inside.trail.items c.self.inside.clients c.self.inside.pages c.args.self.now c.fall.result c.self.view_is refl c.fall.ensures c.in_default.not-Some)
+pub roll_back-mark-requires-clause-up : goal.roll_back-mark-requires-clause-up
+roll_back-mark-requires-clause-up c = (up_seen c.args.who c.args.who c.self.inside.limit c.self.inside.trail.items c.self.inside.clients c.self.inside.pages c.args.self.now c.fall.result c.self.view_is refl c.fall.ensures c.in_default.not-Some)
 
-whole_before : (c : goal.After-roll_back) → Whole c.args.self.now
+whole_before : (c : goal.After-roll_back-mark) → Whole c.args.self.now
 whole_before c = whole_at (hub_of c.self.inside.trail.items c.self.inside.limit c.self.inside.clients c.self.inside.pages) c.args.self.now c.self.view_is c.self.invariant.0 c.self.invariant.1
 
-client : (c : goal.After-roll_back) → IsClient c.args.who
+client : (c : goal.After-roll_back-mark) → IsClient c.args.who
 client c = (omega arith, omega arith)
 
-up : (c : goal.After-roll_back) → fallen_in c.args.self.now c.args.who ≡ None
+up : (c : goal.After-roll_back-mark) → fallen_in c.args.self.now c.args.who ≡ None
 up c = (up_seen c.args.who c.args.who c.self.inside.limit c.self.inside.trail.items c.self.inside.clients c.self.inside.pages c.args.self.now c.fall.result c.self.view_is refl c.fall.ensures c.in_default.not-Some)
 
 pub returns-clause-turn : goal.returns-clause-turn
 returns-clause-turn c =
-    subst (λ (n : ℕ). IsChange (λ shared. lose shared c.args.who) (loss.Lost n 0) c.args.self.now c.roll_back.new.self) (sym c.roll_back.ensures.mark)
-    (lost_now c.args.who c.args.self.now c.roll_back.new.self (whole_before c).sound (whole_before c).quiet (up c) c.roll_back.ensures.rolls)
+    subst (λ (n : ℕ). IsChange (λ shared. lose shared c.args.who) (loss.Lost n 0) c.args.self.now c.roll_back-mark.new.self) (sym c.roll_back-mark.ensures.mark)
+    (lost_now c.args.who c.args.self.now c.roll_back-mark.new.self (whole_before c).sound (whole_before c).quiet (up c) c.roll_back-mark.ensures.rolls)
 
 pub returns-clause-frames : goal.returns-clause-frames
 returns-clause-frames c base frames =
-    frames_rolled_back base c.args.who c.args.self.now c.roll_back.new.self c.roll_back.ensures.rolls (whole_before c).sound frames
+    frames_rolled_back base c.args.who c.args.self.now c.roll_back-mark.new.self c.roll_back-mark.ensures.rolls (whole_before c).sound frames
 
 pub returns-clause-others : goal.returns-clause-others
 returns-clause-others c =
-    lost_keeps c.args.who c.args.self.now c.roll_back.new.self (whole_before c).sound (whole_before c).quiet (client c) (up c) c.roll_back.ensures.rolls
+    lost_keeps c.args.who c.args.self.now c.roll_back-mark.new.self (whole_before c).sound (whole_before c).quiet (client c) (up c) c.roll_back-mark.ensures.rolls
 
 pub returns-clause-still : goal.returns-clause-still
 returns-clause-still c =
-    lost_commits_nothing c.args.who c.args.self.now c.roll_back.new.self (whole_before c).sound (whole_before c).quiet (client c) (up c) c.roll_back.ensures.rolls
+    lost_commits_nothing c.args.who c.args.self.now c.roll_back-mark.new.self (whole_before c).sound (whole_before c).quiet (client c) (up c) c.roll_back-mark.ensures.rolls

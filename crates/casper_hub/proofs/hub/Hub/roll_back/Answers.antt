@@ -28,13 +28,6 @@ fell_each-requires c = c.self.invariant.0.formed.places
 pub forget_written-requires : goal.forget_written-requires
 forget_written-requires c = c.self.invariant.2.pages ∙ sym c.revoke.ensures.count
 
--- the client that is lost is live and has not fallen
-up_inside : (c : goal.After-revoke) → is_up (place_in c.self.inside.clients c.args.lost) ≡ true
-up_inside c =
-    up_of (place_in c.self.inside.clients c.args.lost)
-    (subst (λ (h : HubView). is_live h c.args.lost ≡ true) (sym c.self.view_is) c.requires.live)
-    (subst (λ (h : HubView). fallen_in h c.args.lost ≡ None) (sym c.self.view_is) c.requires.up)
-
 pub mark-requires : goal.mark-requires
 mark-requires c =
     let some = some_up c.self.inside.clients c.args.lost
@@ -53,11 +46,11 @@ after c = hub_of c.mark.new.self.items c.self.inside.limit c.fell_each.new.clien
 lost_client : (c : goal.After-mark) → IsClient c.args.lost
 lost_client c = (omega arith, omega arith)
 
-members_are : (c : goal.After-mark) → c.members.result ≡ association_of c.self.inside.trail.items c.args.lost
-members_are c = c.members.ensures.members c.self.inside.trail.items c.self.invariant.2.associations
+members_are : (c : goal.After-mark) → c.members-members.result ≡ association_of c.self.inside.trail.items c.args.lost
+members_are c = c.members-members.ensures.members c.self.inside.trail.items c.self.invariant.2.associations
 
-among : (c : goal.After-mark) (who : ℕ) → is_among 33 c.members.result who ≡ has_member who (association_of c.self.inside.trail.items c.args.lost)
-among c who = among_members c.self.inside.trail.items c.args.lost who c.members.result (members_are c)
+among : (c : goal.After-mark) (who : ℕ) → is_among 33 c.members-members.result who ≡ has_member who (association_of c.self.inside.trail.items c.args.lost)
+among c who = among_members c.self.inside.trail.items c.args.lost who c.members-members.result (members_are c)
 
 rolls : (c : goal.After-mark) → RollsBack c.args.lost (before c) (after c)
 rolls c = record {
@@ -66,7 +59,7 @@ rolls c = record {
   places = c.fell_each.ensures.count;
   clients = λ who.
       c.fell_each.ensures.members who
-      ∙ fell_so (is_among 33 c.members.result who) (has_member who (association_of c.self.inside.trail.items c.args.lost)) (place_in c.self.inside.clients who)
+      ∙ fell_so (is_among 33 c.members-members.result who) (has_member who (association_of c.self.inside.trail.items c.args.lost)) (place_in c.self.inside.clients who)
       c.len-place.result (open_calls_of c.self.inside.associations who) c.self.inside.trail.items who (among c who) c.len-place.ensures
       (λ member. c.self.invariant.2.associations.calls who (member_is_client c.self.inside.trail.items c.args.lost who member));
   stabilisations = refl;
@@ -79,7 +72,7 @@ rolls c = record {
   frames = λ page.
       c.forget_written.ensures.frames page
       ∙ ap (λ b. cond b None (frame_in c.revoke.new.self page))
-      (forgotten_modified c.self.inside.associations c.self.inside.trail.items c.args.lost page c.members.result (clients_recorded (before c) c.self.invariant.0.stands)
+      (forgotten_modified c.self.inside.associations c.self.inside.trail.items c.args.lost page c.members-members.result (clients_recorded (before c) c.self.invariant.0.stands)
       c.self.invariant.2.associations (lost_client c) (members_are c))
       ∙ ap (λ frames. cond (is_modified_by (association_of c.self.inside.trail.items c.args.lost) c.self.inside.trail.items page) None (slice_index_or frames page None)) c.revoke.ensures.frames;
 }
@@ -93,7 +86,7 @@ room_after : (c : goal.After-mark) → count_up c.fell_each.new.clients ≤ c.ma
 room_after c =
     let fell = c.fell_each.ensures.members in
     let less = one_fewer_up c.self.inside.clients c.fell_each.new.clients c.args.lost c.fell_each.ensures.count
-    (λ at up. was_up (is_among 33 c.members.result at) (fall c at) (place_in c.self.inside.clients at) (ap is_up (sym (fell at)) ∙ up))
+    (λ at up. was_up (is_among 33 c.members-members.result at) (fall c at) (place_in c.self.inside.clients at) (ap is_up (sym (fell at)) ∙ up))
     (up_of (place_in c.self.inside.clients c.args.lost)
     (subst (λ (h : HubView). is_live h c.args.lost ≡ true) (sym c.self.view_is) c.requires.live)
     (subst (λ (h : HubView). fallen_in h c.args.lost ≡ None) (sym c.self.view_is) c.requires.up))
@@ -117,7 +110,7 @@ invariant_of-self c = (
   record {
     limit = c.mark.ensures.limit ∙ c.self.invariant.2.limit;
     associations = subst (AreAssociationsOf c.dissolve.new.self) (sym c.mark.ensures.items)
-        (c.dissolve.ensures.trail c.self.inside.trail.items (Rollback c.args.lost c.members.result) (clients_recorded (before c) c.self.invariant.0.stands)
+        (c.dissolve.ensures.trail c.self.inside.trail.items (Rollback c.args.lost c.members-members.result) (clients_recorded (before c) c.self.invariant.0.stands)
         c.self.invariant.2.associations (members_are c) refl);
     pages = c.dissolve.ensures.pages ∙ c.self.invariant.2.pages ∙ sym (ap length c.forget_written.ensures.rights ∙ c.revoke.ensures.count);
     room = room_after c;

@@ -21,39 +21,39 @@ use Rattle.casper_hub.proofs.hub.Hub.vanish.Goals as goal
 
 -- Where the client had fallen.
 
-whole_fallen : (c : goal.After-make_absent-in-Some) → Whole c.args.self.now
+whole_fallen : (c : goal.After-make_absent) → Whole c.args.self.now
 whole_fallen c = whole_at (hub_of c.self.inside.trail.items c.self.inside.limit c.self.inside.clients c.self.inside.pages) c.args.self.now c.self.view_is c.self.invariant.0 c.self.invariant.1
 
-client_fallen : (c : goal.After-make_absent-in-Some) → IsClient c.args.cache.now.client
+client_fallen : (c : goal.After-make_absent) → IsClient c.args.cache.now.client
 client_fallen c = client_owned c.args.self.now c.args.cache.now (whole_fallen c).sound c.requires.owns
 
-fell : (c : goal.After-make_absent-in-Some) → fallen_in c.args.self.now c.args.cache.now.client ≡ Some (shown_fall c.in-Some.fall)
+fell : (c : goal.After-make_absent) → fallen_in c.args.self.now c.args.cache.now.client ≡ Some (shown_fall c.in-Some.fall)
 fell c = ap (fallen_in c.args.self.now) c.requires.client ∙ (fell_seen c.args.who c.self.inside.limit c.self.inside.trail.items c.self.inside.clients c.self.inside.pages c.args.self.now c.fall.result c.in-Some.fall c.self.view_is c.fall.ensures c.in-Some.is)
 
-abbrev after_fallen : goal.After-make_absent-in-Some → HubView
-after_fallen c = hub_of c.self.inside.trail.items c.self.inside.limit c.make_absent-in-Some.new.clients c.self.inside.pages
+abbrev after_fallen : goal.After-make_absent → HubView
+after_fallen c = hub_of c.self.inside.trail.items c.self.inside.limit c.make_absent.new.clients c.self.inside.pages
 
 -- the hub without the client
-fallen_is : (c : goal.After-make_absent-in-Some) → after_fallen c ≡ without_client c.args.cache.now.client c.args.self.now
+fallen_is : (c : goal.After-make_absent) → after_fallen c ≡ without_client c.args.cache.now.client c.args.self.now
 fallen_is c =
-    ap (λ (places : List (Option ClientView)). hub_of c.self.inside.trail.items c.self.inside.limit places c.self.inside.pages) c.make_absent-in-Some.ensures.clients
+    ap (λ (places : List (Option ClientView)). hub_of c.self.inside.trail.items c.self.inside.limit places c.self.inside.pages) c.make_absent.ensures.clients
     ∙ ap (without_client c.args.who) c.self.view_is ∙ ap (λ (n : ℕ). without_client n c.args.self.now) (sym c.requires.client)
 
-turn_fallen : (c : goal.After-make_absent-in-Some)
-    → IsTurn vanish (loss.Lost c.in-Some.fall.mark (length c.args.cache.now.pending)) c.args.self.now c.args.cache.now (after_fallen c) c.make_absent-in-Some.new.cache
+turn_fallen : (c : goal.After-make_absent)
+    → IsTurn vanish (loss.Lost c.in-Some.fall.mark (length c.args.cache.now.pending)) c.args.self.now c.args.cache.now (after_fallen c) c.make_absent.new.cache
 turn_fallen c =
-    subst (λ (h : HubView). IsTurn vanish (loss.Lost c.in-Some.fall.mark (length c.args.cache.now.pending)) c.args.self.now c.args.cache.now h c.make_absent-in-Some.new.cache) (sym (fallen_is c))
+    subst (λ (h : HubView). IsTurn vanish (loss.Lost c.in-Some.fall.mark (length c.args.cache.now.pending)) c.args.self.now c.args.cache.now h c.make_absent.new.cache) (sym (fallen_is c))
     (subst (λ (o : cache.Own). IsTurn vanish (loss.Lost c.in-Some.fall.mark (length c.args.cache.now.pending)) c.args.self.now c.args.cache.now (without_client c.args.cache.now.client c.args.self.now) o)
-    (sym c.make_absent-in-Some.ensures.cache)
+    (sym c.make_absent.ensures.cache)
     (fallen_vanishes c.args.self.now c.args.cache.now (shown_fall c.in-Some.fall) (whole_fallen c).sound (whole_fallen c).quiet (client_fallen c) (fell c)))
 
-sound_fallen : (c : goal.After-make_absent-in-Some) → IsSound (after_fallen c)
+sound_fallen : (c : goal.After-make_absent) → IsSound (after_fallen c)
 sound_fallen c =
     subst IsSound (sym (fallen_is c))
     (fallen_vanished_sound c.args.self.now c.args.cache.now (shown_fall c.in-Some.fall) (whole_fallen c).sound (whole_fallen c).quiet (client_fallen c) c.requires.owns (fell c))
 
-pub invariant_of-self-in-Some : goal.invariant_of-self-in-Some
-invariant_of-self-in-Some c = (
+pub invariant_of-self : goal.invariant_of-self
+invariant_of-self c = (
   sound_fallen c,
   subst IsPlain (sym (fallen_is c))
       (record {
@@ -66,7 +66,7 @@ invariant_of-self-in-Some c = (
     pages = c.self.invariant.2.pages;
     room =
         let fewer = fewer_up_without c.self.inside.clients c.args.who in
-        let same = ap count_up c.make_absent-in-Some.ensures.clients in
+        let same = ap count_up c.make_absent.ensures.clients in
         let room = c.self.invariant.2.room in
         omega (arith, fewer, same, room);
   },
@@ -74,7 +74,7 @@ invariant_of-self-in-Some c = (
 
 pub returns-in-Some-clause-turn : goal.returns-in-Some-clause-turn
 returns-in-Some-clause-turn c =
-    subst (λ (n : ℕ). IsTurn vanish (loss.Lost c.in-Some.fall.mark n) c.args.self.now c.args.cache.now (after_fallen c) c.make_absent-in-Some.new.cache)
+    subst (λ (n : ℕ). IsTurn vanish (loss.Lost c.in-Some.fall.mark n) c.args.self.now c.args.cache.now (after_fallen c) c.make_absent.new.cache)
     (ap length (sym (c.as_slice.ensures ∙ c.pending.ensures))) (turn_fallen c)
 
 pub returns-in-Some-clause-absent : goal.returns-in-Some-clause-absent
@@ -97,47 +97,47 @@ returns-in-Some-clause-sound c = sound_fallen c
 
 -- Where it had not, and its association was rolled back.
 
-pub roll_back-requires-clause-live : goal.roll_back-requires-clause-live
-roll_back-requires-clause-live c = subst (λ (n : ℕ). is_some (client_in c.args.self.now n) ≡ true) c.requires.client c.requires.owns.live
+pub roll_back-mark-requires-clause-live : goal.roll_back-mark-requires-clause-live
+roll_back-mark-requires-clause-live c = subst (λ (n : ℕ). is_some (client_in c.args.self.now n) ≡ true) c.requires.client c.requires.owns.live
 
-pub roll_back-requires-clause-up : goal.roll_back-requires-clause-up
-roll_back-requires-clause-up c = (up_seen c.args.who c.args.who c.self.inside.limit c.self.inside.trail.items c.self.inside.clients c.self.inside.pages c.args.self.now c.fall.result c.self.view_is refl c.fall.ensures c.in_default.not-Some)
+pub roll_back-mark-requires-clause-up : goal.roll_back-mark-requires-clause-up
+roll_back-mark-requires-clause-up c = (up_seen c.args.who c.args.who c.self.inside.limit c.self.inside.trail.items c.self.inside.clients c.self.inside.pages c.args.self.now c.fall.result c.self.view_is refl c.fall.ensures c.in_default.not-Some)
 
-whole_before : (c : goal.After-make_absent) → Whole c.args.self.now
+whole_before : (c : goal.After-make_absent-2) → Whole c.args.self.now
 whole_before c = whole_at (hub_of c.self.inside.trail.items c.self.inside.limit c.self.inside.clients c.self.inside.pages) c.args.self.now c.self.view_is c.self.invariant.0 c.self.invariant.1
 
-client : (c : goal.After-make_absent) → IsClient c.args.cache.now.client
+client : (c : goal.After-make_absent-2) → IsClient c.args.cache.now.client
 client c = client_owned c.args.self.now c.args.cache.now (whole_before c).sound c.requires.owns
 
-up : (c : goal.After-make_absent) → fallen_in c.args.self.now c.args.cache.now.client ≡ None
+up : (c : goal.After-make_absent-2) → fallen_in c.args.self.now c.args.cache.now.client ≡ None
 up c = ap (fallen_in c.args.self.now) c.requires.client ∙ (up_seen c.args.who c.args.who c.self.inside.limit c.self.inside.trail.items c.self.inside.clients c.self.inside.pages c.args.self.now c.fall.result c.self.view_is refl c.fall.ensures c.in_default.not-Some)
 
-rolls : (c : goal.After-make_absent) → RollsBack c.args.cache.now.client c.args.self.now c.roll_back.new.self
-rolls c = subst (λ (n : ℕ). RollsBack n c.args.self.now c.roll_back.new.self) (sym c.requires.client) c.roll_back.ensures.rolls
+rolls : (c : goal.After-make_absent-2) → RollsBack c.args.cache.now.client c.args.self.now c.roll_back-mark.new.self
+rolls c = subst (λ (n : ℕ). RollsBack n c.args.self.now c.roll_back-mark.new.self) (sym c.requires.client) c.roll_back-mark.ensures.rolls
 
-abbrev after : goal.After-make_absent → HubView
-after c = hub_of c.self-2.inside.trail.items c.self-2.inside.limit c.make_absent.new.clients c.self-2.inside.pages
+abbrev after : goal.After-make_absent-2 → HubView
+after c = hub_of c.self-2.inside.trail.items c.self-2.inside.limit c.make_absent-2.new.clients c.self-2.inside.pages
 
-after_is : (c : goal.After-make_absent) → after c ≡ without_client c.args.cache.now.client c.roll_back.new.self
+after_is : (c : goal.After-make_absent-2) → after c ≡ without_client c.args.cache.now.client c.roll_back-mark.new.self
 after_is c =
-    ap (λ (places : List (Option ClientView)). hub_of c.self-2.inside.trail.items c.self-2.inside.limit places c.self-2.inside.pages) c.make_absent.ensures.clients
-    ∙ ap (without_client c.args.who) c.self-2.view_is ∙ ap (λ (n : ℕ). without_client n c.roll_back.new.self) (sym c.requires.client)
+    ap (λ (places : List (Option ClientView)). hub_of c.self-2.inside.trail.items c.self-2.inside.limit places c.self-2.inside.pages) c.make_absent-2.ensures.clients
+    ∙ ap (without_client c.args.who) c.self-2.view_is ∙ ap (λ (n : ℕ). without_client n c.roll_back-mark.new.self) (sym c.requires.client)
 
-turn : (c : goal.After-make_absent)
-    → IsTurn vanish (loss.Lost (length c.args.self.now.trail) (length c.args.cache.now.pending)) c.args.self.now c.args.cache.now (after c) c.make_absent.new.cache
+turn : (c : goal.After-make_absent-2)
+    → IsTurn vanish (loss.Lost (length c.args.self.now.trail) (length c.args.cache.now.pending)) c.args.self.now c.args.cache.now (after c) c.make_absent-2.new.cache
 turn c =
-    subst (λ (h : HubView). IsTurn vanish (loss.Lost (length c.args.self.now.trail) (length c.args.cache.now.pending)) c.args.self.now c.args.cache.now h c.make_absent.new.cache) (sym (after_is c))
-    (subst (λ (o : cache.Own). IsTurn vanish (loss.Lost (length c.args.self.now.trail) (length c.args.cache.now.pending)) c.args.self.now c.args.cache.now (without_client c.args.cache.now.client c.roll_back.new.self) o)
-    (sym c.make_absent.ensures.cache)
-    (lost_vanishes c.args.self.now c.roll_back.new.self c.args.cache.now (whole_before c).sound (whole_before c).quiet (client c) (up c) (rolls c)))
+    subst (λ (h : HubView). IsTurn vanish (loss.Lost (length c.args.self.now.trail) (length c.args.cache.now.pending)) c.args.self.now c.args.cache.now h c.make_absent-2.new.cache) (sym (after_is c))
+    (subst (λ (o : cache.Own). IsTurn vanish (loss.Lost (length c.args.self.now.trail) (length c.args.cache.now.pending)) c.args.self.now c.args.cache.now (without_client c.args.cache.now.client c.roll_back-mark.new.self) o)
+    (sym c.make_absent-2.ensures.cache)
+    (lost_vanishes c.args.self.now c.roll_back-mark.new.self c.args.cache.now (whole_before c).sound (whole_before c).quiet (client c) (up c) (rolls c)))
 
-sound_after : (c : goal.After-make_absent) → IsSound (after c)
+sound_after : (c : goal.After-make_absent-2) → IsSound (after c)
 sound_after c =
     subst IsSound (sym (after_is c))
-    (lost_vanished_sound c.args.self.now c.roll_back.new.self c.args.cache.now (whole_before c).sound (whole_before c).quiet (client c) c.requires.owns (up c) (rolls c))
+    (lost_vanished_sound c.args.self.now c.roll_back-mark.new.self c.args.cache.now (whole_before c).sound (whole_before c).quiet (client c) c.requires.owns (up c) (rolls c))
 
-whole_middle : (c : goal.After-make_absent) → Whole c.roll_back.new.self
-whole_middle c = whole_at (hub_of c.self-2.inside.trail.items c.self-2.inside.limit c.self-2.inside.clients c.self-2.inside.pages) c.roll_back.new.self c.self-2.view_is c.self-2.invariant.0 c.self-2.invariant.1
+whole_middle : (c : goal.After-make_absent-2) → Whole c.roll_back-mark.new.self
+whole_middle c = whole_at (hub_of c.self-2.inside.trail.items c.self-2.inside.limit c.self-2.inside.clients c.self-2.inside.pages) c.roll_back-mark.new.self c.self-2.view_is c.self-2.invariant.0 c.self-2.invariant.1
 
 pub invariant_of-self-2 : goal.invariant_of-self-2
 invariant_of-self-2 c = (
@@ -145,7 +145,7 @@ invariant_of-self-2 c = (
   subst IsPlain (sym (after_is c))
       (record {
         quiet = (whole_middle c).quiet;
-        unkept = unkept_absent c.args.cache.now.client c.roll_back.new.self (client c) (whole_middle c).places (whole_middle c).unkept;
+        unkept = unkept_absent c.args.cache.now.client c.roll_back-mark.new.self (client c) (whole_middle c).places (whole_middle c).unkept;
       }),
   record {
     limit = c.self-2.invariant.2.limit;
@@ -153,7 +153,7 @@ invariant_of-self-2 c = (
     pages = c.self-2.invariant.2.pages;
     room =
         let fewer = fewer_up_without c.self-2.inside.clients c.args.who in
-        let same = ap count_up c.make_absent.ensures.clients in
+        let same = ap count_up c.make_absent-2.ensures.clients in
         let room = c.self-2.invariant.2.room in
         omega (arith, fewer, same, room);
   },
@@ -161,19 +161,19 @@ invariant_of-self-2 c = (
 
 pub returns-clause-turn : goal.returns-clause-turn
 returns-clause-turn c =
-    subst (λ (m : ℕ). IsTurn vanish (loss.Lost m (length c.as_slice.result.now)) c.args.self.now c.args.cache.now (after c) c.make_absent.new.cache) (sym c.roll_back.ensures.mark)
-    (subst (λ (n : ℕ). IsTurn vanish (loss.Lost (length c.args.self.now.trail) n) c.args.self.now c.args.cache.now (after c) c.make_absent.new.cache)
+    subst (λ (m : ℕ). IsTurn vanish (loss.Lost m (length c.as_slice.result.now)) c.args.self.now c.args.cache.now (after c) c.make_absent-2.new.cache) (sym c.roll_back-mark.ensures.mark)
+    (subst (λ (n : ℕ). IsTurn vanish (loss.Lost (length c.args.self.now.trail) n) c.args.self.now c.args.cache.now (after c) c.make_absent-2.new.cache)
     (ap length (sym (c.as_slice.ensures ∙ c.pending.ensures))) (turn c))
 
 pub returns-clause-absent : goal.returns-clause-absent
 returns-clause-absent c =
-    ap (λ (h : HubView). is_some (client_in h c.args.who)) (after_is c) ∙ ap (λ (n : ℕ). is_some (client_in (without_client n c.roll_back.new.self) c.args.who)) c.requires.client
-    ∙ ap is_some (gone c.args.who c.roll_back.new.self (subst IsClient c.requires.client (client c)) (whole_middle c).places)
+    ap (λ (h : HubView). is_some (client_in h c.args.who)) (after_is c) ∙ ap (λ (n : ℕ). is_some (client_in (without_client n c.roll_back-mark.new.self) c.args.who)) c.requires.client
+    ∙ ap is_some (gone c.args.who c.roll_back-mark.new.self (subst IsClient c.requires.client (client c)) (whole_middle c).places)
 
 pub returns-clause-frames : goal.returns-clause-frames
 returns-clause-frames c base frames =
     subst (λ (h : HubView). FramesAreRight base h) (sym (after_is c))
-    (frames_rolled_back base c.args.cache.now.client c.args.self.now c.roll_back.new.self (rolls c) (whole_before c).sound frames)
+    (frames_rolled_back base c.args.cache.now.client c.args.self.now c.roll_back-mark.new.self (rolls c) (whole_before c).sound frames)
 
 pub returns-clause-others : goal.returns-clause-others
 returns-clause-others c other differ =
