@@ -139,6 +139,12 @@ one_fewer_up (a ∷ before) (b ∷ after) (suc who) long falls was now =
     let rest = one_of_each (is_up a) (is_up b) (count_up before) (count_up after + 1) (falls 0) less in
     omega (arith, rest, counted a before, counted b after)
 
+-- a client that is up is counted
+pub some_up : (places : List (Option ClientView)) (who : ℕ) → is_up (place_in places who) ≡ true → 0 < count_up places
+some_up [] who up = absurd (true≢false (sym up))
+some_up (a ∷ places) zero up = omega (arith, counted a places, ap (λ b. cond {A = ℕ} b 1 0) up)
+some_up (a ∷ places) (suc who) up = let rest = some_up places who up in omega (arith, rest, counted a places)
+
 -- a live client that has not fallen is up
 pub up_of : (place : Option ClientView) → is_some place ≡ true → fall_of place ≡ None → is_up place ≡ true
 up_of None live up = absurd (true≢false (sym live))

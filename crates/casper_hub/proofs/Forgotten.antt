@@ -23,21 +23,18 @@ pub forgotten_modified : (all : AssociationsView) (items : List Item) (lost page
     → is_writer (is_among 33 members) (writer_of all.labelling page) ≡ is_modified_by (association_of items lost) items page
 forgotten_modified all items lost page members clients are client same = by (writer_of all.labelling page) refl
   where
-    law : _
-    law = members_labelled_the_modified all items lost page clients are client
-
     unmodified : ((who : ℕ) → writer_of all.labelling page ≡ Some who → has_member who (association_of items lost) ≡ false)
         → is_modified_by (association_of items lost) items page ≡ false
     unmodified none =
         false_from_ne_true (is_modified_by (association_of items lost) items page)
-        (λ modified. let found = law.0 modified in true≢false (sym found.1 ∙ none found.0 found.2))
+        (λ modified. let found = (members_labelled_the_modified all items lost page clients are client).0 modified in true≢false (sym found.1 ∙ none found.0 found.2))
 
     by : (writer : Option ℕ) → writer_of all.labelling page ≡ writer → is_writer (is_among 33 members) writer ≡ is_modified_by (association_of items lost) items page
-    by None is = sym (unmodified (λ who found. none-some who (sym is ∙ found)))
+    by None is = sym (unmodified (λ who found. absurd (none-some who (sym is ∙ found))))
     by (Some who) is = among_members items lost who members same ∙ member (has_member who (association_of items lost)) refl
       where
         member : (b : Bool) → has_member who (association_of items lost) ≡ b → has_member who (association_of items lost) ≡ is_modified_by (association_of items lost) items page
-        member true yes = yes ∙ sym (law.1 (who, yes, is))
+        member true yes = yes ∙ sym ((members_labelled_the_modified all items lost page clients are client).1 (who, yes, is))
         member false no =
             no ∙ sym (unmodified (λ other found. ap (λ n. has_member n (association_of items lost)) (some_is other who (sym found ∙ is)) ∙ no))
 
