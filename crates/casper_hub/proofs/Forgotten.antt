@@ -34,9 +34,9 @@ forgotten_modified all items lost page members clients are client same = by (wri
     by (Some who) is = among_members items lost who members same ∙ member (has_member who (association_of items lost)) refl
       where
         member : (b : Bool) → has_member who (association_of items lost) ≡ b → has_member who (association_of items lost) ≡ is_modified_by (association_of items lost) items page
-        member true yes = yes ∙ sym ((members_labelled_the_modified all items lost page clients are client).1 (who, yes, is))
-        member false no =
-            no ∙ sym (unmodified (λ other found. ap (λ n. has_member n (association_of items lost)) (some_is other who (sym found ∙ is)) ∙ no))
+        member true inside = inside ∙ sym ((members_labelled_the_modified all items lost page clients are client).1 (who, inside, is))
+        member false out =
+            out ∙ sym (unmodified (λ other found. ap (λ n. has_member n (association_of items lost)) (some_is other who (sym found ∙ is)) ∙ out))
 
 -- The frames of these pages are dropped, those of one member after another.
 
