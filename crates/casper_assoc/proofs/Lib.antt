@@ -1,7 +1,9 @@
 pub mod Parts
 pub mod PartsOfClients
 pub mod Places
+pub mod TrailAssociations
 pub mod TrailCalls
+pub mod TrailCounts
 pub mod TrailMarks
 pub mod TrailParts
 pub mod WrittenLists

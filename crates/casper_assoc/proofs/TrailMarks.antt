@@ -72,7 +72,7 @@ find_none_stays test keep (y ∷ ys) none =
     (cases_Bool (test y))
 
 -- the members of an exact mark are the association that it names
-exact_members : (items : List Item) (mark : Mark) → IsExactMark items mark → members_of_mark mark ≡ association_of items (named_by mark)
+pub exact_members : (items : List Item) (mark : Mark) → IsExactMark items mark → members_of_mark mark ≡ association_of items (named_by mark)
 exact_members items (Commit lead members) exact = exact
 exact_members items (Rollback lost members) exact = exact
 

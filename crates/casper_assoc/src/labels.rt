@@ -48,6 +48,7 @@ impl Labels {
         ensures label { result ≡ label_of self.now who }
         ensures is_label { IsLabel self.now result }
         ensures sound { IsSound self.now }
+        ensures client { IsClient who }
     {
         self.labels[who.number() as usize]
     }

@@ -1,3 +1,4 @@
+ghost use Rattle.casper_assoc.specs.AssociationsLaws.{OpenCallsAreEntries, OpenCallsAfterCalls, OpenCallsAfterTouch, OpenCallsAfterMark, ModifiedByTheWriter, MembersLabelledTheModified};
 ghost use Rattle.casper_assoc.specs.PartLaws.{ClientsAreInTheirPart, MembersHaveTheLabel, PartsGoByLabel, PageLabelsAreLabels, WrittenPagesHaveTheLabel, LabelledPagesAreWritten, MergedPart, OthersStayApart, DissolvedAlone, OthersStayWhole};
 ghost use Rattle.casper_assoc.specs.TrailLabels.{ModifiedPagesAreLabelled, WritersHaveThePagesLabel, PagesOfAPart, LabelsAtTheStart, EntryMergesParts, EntryWithinPart, CallsWithinPart, MarkDissolvesPart};
 
@@ -26,4 +27,14 @@ pub fn trail_laws()
     ensures within { EntryWithinPart }
     ensures calls { CallsWithinPart }
     ensures dissolves { MarkDissolvesPart }
+{}
+
+/// The laws of the counts of open calls and of modified pages, as contracts of a call that does nothing.
+pub fn call_and_page_laws()
+    ensures entries { OpenCallsAreEntries }
+    ensures calls { OpenCallsAfterCalls }
+    ensures touch { OpenCallsAfterTouch }
+    ensures mark { OpenCallsAfterMark }
+    ensures writer { ModifiedByTheWriter }
+    ensures modified { MembersLabelledTheModified }
 {}

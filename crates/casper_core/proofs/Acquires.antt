@@ -34,7 +34,7 @@ handed_capacity : (both : Both) (gathering : Option Stabilisation) → (handed_i
 handed_capacity both None = refl
 handed_capacity both (Some gathering) = refl
 
-opened_capacity : (shared : Shared) (own : Own) → (opened shared own).own.capacity ≡ own.capacity
+pub opened_capacity : (shared : Shared) (own : Own) → (opened shared own).own.capacity ≡ own.capacity
 opened_capacity shared own =
     let both = given_up (begun shared own) in handed_capacity both (gathering_of both.shared both.own.who)
 

@@ -13,8 +13,8 @@ use Rattle.casper_model.specs.Shared.{is_live}
 use Rattle.casper_model.specs.Outside.{Outside, NothingFailed}
 use Rattle.casper_model.specs.Rights.{NamesClients}
 use Rattle.casper_model.specs.State.{State, own_at}
-use Rattle.casper_model.specs.Step.{step, read_turn, write_turn, acquire_turn, serve_turn}
-use Rattle.casper_model.specs.Turn.{within, is_in_range, are_in_range}
+use Rattle.casper_model.specs.Step.{step, read_turn, write_turn, acquire_turn, serve_turn, lose_turn}
+use Rattle.casper_model.specs.Turn.{guarded, within, is_in_range, are_in_range}
 use Rattle.casper_model.specs.Vault.{VaultState}
 use Rattle.casper_model.proofs.StepAdditions.{step_adds}
 use Rattle.casper_hub.specs.HubView.{HubView}
@@ -30,6 +30,7 @@ use Rattle.casper_core.specs.Represents.{own_part, HasPartsOf, Represents}
 use Rattle.casper_core.specs.Stepping.{Steps}
 use Rattle.casper_core.proofs.Loads.{shows_loaded}
 use Rattle.casper_core.proofs.MachineTurns.{same_gives, gives_by}
+use Rattle.casper_core.proofs.Losses.{lose_stays}
 use Rattle.casper_core.proofs.Places.{sound_placed, parts_placed, shape_placed, stable_stays}
 use Rattle.casper_core.proofs.StepParts.{passed_by, refused_by, live_where, answered_same, made_same, shape_at, placed_again, right_again, client_answered}
 
@@ -69,7 +70,7 @@ names who (event.Finish lead) is client = absurd is
 names who event.Settle is client = absurd is
 names who (event.Depart other) is client = absurd is
 names who (event.Vanish other) is client = absurd is
-names who (event.Lose other) is client = absurd is
+names who (event.Lose other) is client = subst IsClient (sym is) client
 
 pub stays_stable : (who : ℕ) (one : Event) → IsTurnOf who one → (outside : Outside) (state : State) → stable_entries (step state one outside).state.shared.trail ≡ stable_entries state.shared.trail
 stays_stable who (event.Join other) is outside state = absurd is
@@ -89,7 +90,11 @@ stays_stable who (event.Finish lead) is outside state = absurd is
 stays_stable who event.Settle is outside state = absurd is
 stays_stable who (event.Depart other) is outside state = absurd is
 stays_stable who (event.Vanish other) is outside state = absurd is
-stays_stable who (event.Lose other) is outside state = absurd is
+stays_stable who (event.Lose other) is outside state = by (is_live state.shared other)
+  where
+    by : (live : Bool) → stable_entries (guarded live answer.Absent state (lose_turn other)).state.shared.trail ≡ stable_entries state.shared.trail
+    by true = lose_stays state.shared other
+    by false = refl
 
 -- of a live client
 pub is_turn : (who : ℕ) (one : Event) → IsTurnOf who one → (outside : Outside) (state : State) → is_live state.shared who ≡ true → step state one outside ≡ client_turn who one outside state
@@ -112,7 +117,8 @@ is_turn who (event.Finish lead) is outside state live = absurd is
 is_turn who event.Settle is outside state live = absurd is
 is_turn who (event.Depart other) is outside state live = absurd is
 is_turn who (event.Vanish other) is outside state live = absurd is
-is_turn who (event.Lose other) is outside state live = absurd is
+is_turn who (event.Lose other) is outside state live =
+    ap (λ number. step state (event.Lose number) outside) is ∙ passed_by (is_live state.shared who) answer.Absent state (lose_turn who) live
 
 -- of one that is not
 pub is_absent : (who : ℕ) (one : Event) → IsTurnOf who one → (outside : Outside) (state : State) → is_live state.shared who ≡ false
@@ -136,7 +142,8 @@ is_absent who (event.Finish lead) is outside state gone = absurd is
 is_absent who event.Settle is outside state gone = absurd is
 is_absent who (event.Depart other) is outside state gone = absurd is
 is_absent who (event.Vanish other) is outside state gone = absurd is
-is_absent who (event.Lose other) is outside state gone = absurd is
+is_absent who (event.Lose other) is outside state gone =
+    ap (λ number. step state (event.Lose number) outside) is ∙ refused_by (is_live state.shared who) answer.Absent state (lose_turn who) gone
 
 -- the same of an event that was answered
 pub is_turn_with : (who : ℕ) (one : Event) → IsTurnOf who one → (said : Answer) (state : State) → is_live state.shared who ≡ true → step_with state one said ≡ client_turn_with who one said state
@@ -154,7 +161,7 @@ is_turn_with who (event.Finish lead) is said state live = absurd is
 is_turn_with who event.Settle is said state live = absurd is
 is_turn_with who (event.Depart other) is said state live = absurd is
 is_turn_with who (event.Vanish other) is said state live = absurd is
-is_turn_with who (event.Lose other) is said state live = absurd is
+is_turn_with who (event.Lose other) is said state live = is_turn who (event.Lose other) is (outside_of said) state live
 
 pub is_absent_with : (who : ℕ) (one : Event) → IsTurnOf who one → (said : Answer) (state : State) → is_live state.shared who ≡ false
     → step_with state one said ≡ record { answer = answer.Absent; state = state }
@@ -172,7 +179,7 @@ is_absent_with who (event.Finish lead) is said state gone = absurd is
 is_absent_with who event.Settle is said state gone = absurd is
 is_absent_with who (event.Depart other) is said state gone = absurd is
 is_absent_with who (event.Vanish other) is said state gone = absurd is
-is_absent_with who (event.Lose other) is said state gone = absurd is
+is_absent_with who (event.Lose other) is said state gone = is_absent who (event.Lose other) is (outside_of said) state gone
 
 module _ {V : Type 0} (core : CoreView V) (at who : ℕ) (same : at ≡ who) (client : IsClient who) (sound : IsSound core) where
   -- the client is absent

@@ -10,6 +10,8 @@ use Rattle.casper_model.specs.declared.event.Event.{Event}
 use Rattle.casper_model.specs.declared.event.Event.TheVariants as event
 use Rattle.casper_model.specs.declared.reply.Reply.{Reply}
 use Rattle.casper_model.specs.declared.reply.Reply.TheVariants as reply
+use Rattle.casper_model.specs.declared.reply.Loss.{Loss}
+use Rattle.casper_model.specs.declared.reply.Loss.TheVariants as loss
 use Rattle.casper_model.specs.declared.reply.Served.{Served}
 use Rattle.casper_model.specs.declared.reply.Served.TheVariants as served
 use Rattle.casper_model.specs.declared.reply.JoinRefusal.{JoinRefusal}
@@ -17,17 +19,18 @@ use Rattle.casper_model.specs.declared.reply.JoinRefusal.TheVariants as refusal
 use Rattle.casper_model.specs.Both.{Turned}
 use Rattle.casper_model.specs.Own as machine
 use Rattle.casper_model.specs.Acquire.{acquire}
-use Rattle.casper_model.specs.Answers.{of_join, of_reply, of_served, of_depart}
+use Rattle.casper_model.specs.Answers.{of_join, of_reply, of_served, of_depart, of_vanish, of_lose}
 use Rattle.casper_model.specs.CallStep.{acquire_step, unless_load_failed, hit_turn, hit_behind, call_by, call_step, is_granted}
 use Rattle.casper_model.specs.Client.{Client}
 use Rattle.casper_model.specs.Hits.{hit_read, hit_write}
 use Rattle.casper_model.specs.Join.{join, joined_by}
-use Rattle.casper_model.specs.Leave.{serve, depart}
+use Rattle.casper_model.specs.Leave.{serve, depart, vanish}
+use Rattle.casper_model.specs.Loss.{lose}
 use Rattle.casper_model.specs.Outside.{Outside, NothingFailed}
 use Rattle.casper_model.specs.Room.{free_room}
 use Rattle.casper_model.specs.Shared.{Shared, client_at, is_live}
 use Rattle.casper_model.specs.State.{State, own_at, after_turn}
-use Rattle.casper_model.specs.Step.{acquire_turn, serve_turn, depart_turn, write_turn}
+use Rattle.casper_model.specs.Step.{acquire_turn, serve_turn, depart_turn, vanish_turn, lose_turn, write_turn}
 use Rattle.casper_model.specs.Turn.{Turn, guarded, within, is_in_range, are_in_range}
 use Rattle.casper_model.specs.View.{value_seen}
 use Rattle.casper_hub.specs.HubView as hub
@@ -62,6 +65,16 @@ of_serve (served.RolledBack mark recorded unrecorded) = refl
 of_leave : (one : Served) → is_of_no_turn (of_depart one) ≡ false
 of_leave served.Ok = refl
 of_leave (served.RolledBack mark recorded unrecorded) = refl
+
+of_vanished : (one : Loss) → is_of_no_turn (of_vanish one) ≡ false
+of_vanished (loss.Lost mark unrecorded) = refl
+of_vanished (loss.Noted lead unrecorded) = refl
+of_vanished (loss.Already mark) = refl
+
+of_lost : (one : Loss) → is_of_no_turn (of_lose one) ≡ false
+of_lost (loss.Lost mark unrecorded) = refl
+of_lost (loss.Noted lead unrecorded) = refl
+of_lost (loss.Already mark) = refl
 
 failed_turn : (state : State) (failed : Bool) (turn : Turn) → is_of_no_turn turn.answer ≡ false → is_of_no_turn (unless_load_failed state failed turn).answer ≡ false
 failed_turn state true turn is = refl
@@ -177,8 +190,12 @@ module _ {V : Type 0} (core : CoreView V) (sound : IsSound core) (state : State)
   by_event (event.Depart who) said built is =
       decided_where (is_live state.shared who) (hub.is_live core.hub who) true true said (live_here who) refl
       (decided_by (is_live state.shared who) (λ one. true) state said (depart_turn who) (of_leave (depart state.shared (own_at state who)).reply) is)
-  by_event (event.Vanish who) said built is = absurd built
-  by_event (event.Lose who) said built is = absurd built
+  by_event (event.Vanish who) said built is =
+      decided_where (is_live state.shared who) (hub.is_live core.hub who) true true said (live_here who) refl
+      (decided_by (is_live state.shared who) (λ one. true) state said (vanish_turn who) (of_vanished (vanish state.shared (own_at state who)).reply) is)
+  by_event (event.Lose who) said built is =
+      decided_where (is_live state.shared who) (hub.is_live core.hub who) true true said (live_here who) refl
+      (decided_by (is_live state.shared who) (λ one. true) state said (lose_turn who) (of_lost (lose state.shared who).reply) is)
 
 pub decides : {V : Type 0} (core after : CoreView V) (one : Event) (said : Answer) → IsSound core → IsBuilt one → StepsInShape one said core after → AnswersByTheHub core.hub one said
 decides core after one said sound built steps =

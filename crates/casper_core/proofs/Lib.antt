@@ -6,7 +6,10 @@ pub mod DecidedTurns
 pub mod Departs
 pub mod HitTurns
 pub mod Joins
+pub mod Leaves
 pub mod Loads
+pub mod Losses
+pub mod Loses
 pub mod Places
 pub mod ReplayRuns
 pub mod ShapedRuns

@@ -232,7 +232,7 @@ unheld_page value stored page kept (Some words) are same = same
 pub unheld_of : {V : Type 0} (state : State) (core : CoreView V) → Represents state core → UnheldPagesAreRight state core
 unheld_of state core stands page below free =
     unheld_page (live_value state.base core.hub) (stored_value state.base core.hub) page (page_at core.told.image page) (frame_in core.hub.pages page) (stands.parts.stored page below)
-    (stands.parts.frames page free)
+    (stands.parts.frames page (λ writer is. cc))
 
 -- what a step adds to the trail
 pub adds_of : {V : Type 0} (event : Event) (said : Answer) (core after : CoreView V) → Steps event said core after → (state : State) → Represents state core → StepAdds state event after.hub.trail

@@ -3,10 +3,10 @@ use Rattle.casper_model.specs.declared.event.Event.{Event}
 use Rattle.casper_model.specs.declared.event.Event.TheVariants as event
 use Rattle.casper_model.specs.Outside.{Outside}
 use Rattle.casper_model.specs.State.{State}
-use Rattle.casper_model.specs.Step.{step, read_turn, write_turn, acquire_turn, serve_turn}
+use Rattle.casper_model.specs.Step.{step, read_turn, write_turn, acquire_turn, serve_turn, lose_turn}
 use Rattle.casper_model.specs.Turn.{Turn, within, is_in_range, are_in_range}
 
--- an event of a client in which it keeps its cache
+-- an event of a client in which it keeps its cache, also where another declares it lost
 abbrev pub IsTurnOf : ℕ → Event → Type 0
 IsTurnOf who (event.Join one) = ⊥
 IsTurnOf who (event.Read one page word) = one ≡ who
@@ -20,7 +20,7 @@ IsTurnOf who (event.Finish lead) = ⊥
 IsTurnOf who event.Settle = ⊥
 IsTurnOf who (event.Depart one) = ⊥
 IsTurnOf who (event.Vanish one) = ⊥
-IsTurnOf who (event.Lose one) = ⊥
+IsTurnOf who (event.Lose one) = one ≡ who
 
 -- the turn that such an event is, of a client that is live
 abbrev pub client_turn : ℕ → Event → Outside → State → Turn
@@ -36,4 +36,4 @@ client_turn who (event.Finish lead) outside state = step state (event.Finish lea
 client_turn who event.Settle outside state = step state event.Settle outside
 client_turn who (event.Depart one) outside state = step state (event.Depart one) outside
 client_turn who (event.Vanish one) outside state = step state (event.Vanish one) outside
-client_turn who (event.Lose one) outside state = step state (event.Lose one) outside
+client_turn who (event.Lose one) outside state = lose_turn who state

@@ -19,6 +19,8 @@ decided hub (event.Write who page word value) = decided_of (is_live hub who) (na
 decided hub (event.Acquire who wants) = decided_of (is_live hub who) (list_all (λ want. nat_lt want.page (page_count hub)) wants)
 decided hub (event.Serve who) = decided_of (is_live hub who) true
 decided hub (event.Depart who) = decided_of (is_live hub who) true
+decided hub (event.Vanish who) = decided_of (is_live hub who) true
+decided hub (event.Lose who) = decided_of (is_live hub who) true
 decided hub other = None
 
 -- whether an answer is none of a turn

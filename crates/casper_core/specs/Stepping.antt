@@ -26,8 +26,8 @@ IsBuilt (event.WriteOut lead) = ⊥
 IsBuilt (event.Finish lead) = ⊥
 IsBuilt event.Settle = ⊥
 IsBuilt (event.Depart who) = ⊤
-IsBuilt (event.Vanish who) = ⊥
-IsBuilt (event.Lose who) = ⊥
+IsBuilt (event.Vanish who) = ⊤
+IsBuilt (event.Lose who) = ⊤
 
 -- an event, and what the outside did as its answer tells it
 abbrev pub happening_of : Event → Answer → Happening

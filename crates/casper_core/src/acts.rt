@@ -12,7 +12,7 @@ ghost use Rattle.casper_core.specs.Loading.{OnlyReads, OnlyLoads};
 ghost use Rattle.casper_core.specs.Shaped.{RefinesTurnButValues, read_with, client_turn_with};
 
 use crate::acquire::acquire;
-use crate::answers::{answer_of, answer_of_serve};
+use crate::answers::{answer_of, answer_of_lose, answer_of_serve};
 use crate::calls::{read, write};
 use casper_cache::Cache;
 use casper_disk::Vault;
@@ -139,7 +139,7 @@ fn acquire_within<V: Vault>(
     Ok(answer_of(reply))
 }
 
-/// A turn of a live client: a read, a write, an acquire or a serve. After Memory nothing has changed, but the server may have got
+/// A turn of a live client: a read, a write, an acquire, a serve, or that another declares it lost. After Memory nothing has changed, but the server may have got
 /// frames.
 pub(crate) fn act<V: Vault>(
     alloc: Global,
@@ -178,6 +178,7 @@ pub(crate) fn act<V: Vault>(
         }
         Event::Acquire(_, wants) => acquire_within(alloc, hub, vault, who, cache, wants),
         Event::Serve(_) => Ok(answer_of_serve(hub.serve(who, cache)?)),
+        Event::Lose(_) => Ok(answer_of_lose(hub.lose(who))),
         _ => unreachable!(),
     }
 }

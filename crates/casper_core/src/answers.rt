@@ -1,8 +1,8 @@
 ghost use Rattle.std.specs.Prelude.{◌≡◌, ◌≢◌, Some, IfOk, OnErr};
 ghost use Rattle.casper_model.specs.declared.reply.JoinRefusal.TheVariants as refused;
-ghost use Rattle.casper_model.specs.Answers.{of_join, of_reply, of_served, of_depart};
+ghost use Rattle.casper_model.specs.Answers.{of_join, of_reply, of_served, of_depart, of_vanish, of_lose};
 
-use casper_model::{JoinRefusal, Reply, Served};
+use casper_model::{JoinRefusal, Loss, Reply, Served};
 use casper_space::Answer;
 use casper_words::Memory;
 
@@ -75,5 +75,27 @@ pub(crate) fn answer_of_depart(reply: Served) -> Answer
             recorded,
             unrecorded,
         },
+    }
+}
+
+/// The answer to the vanishing of a client, by the reply of its turn.
+pub(crate) fn answer_of_vanish(reply: Loss) -> Answer
+    ensures { result ≡ of_vanish reply }
+{
+    match reply {
+        Loss::Lost { mark, unrecorded } => Answer::VanishLost { mark, unrecorded },
+        Loss::Noted { lead, unrecorded } => Answer::VanishNoted { lead, unrecorded },
+        Loss::Already { mark } => Answer::Already(mark),
+    }
+}
+
+/// The answer to a declared loss, by the reply of its turn.
+pub(crate) fn answer_of_lose(reply: Loss) -> Answer
+    ensures { result ≡ of_lose reply }
+{
+    match reply {
+        Loss::Lost { mark, .. } => Answer::LoseLost(mark),
+        Loss::Noted { lead, .. } => Answer::LoseNoted(lead),
+        Loss::Already { mark } => Answer::Already(mark),
     }
 }

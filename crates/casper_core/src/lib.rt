@@ -12,6 +12,7 @@ mod replay;
 mod state;
 mod step;
 mod turn;
+mod vanish;
 
 pub use casper_model::Event;
 pub use casper_space::{Answer, Answers};

@@ -69,6 +69,8 @@ impl<V: Vault> Core<V> {
             Event::Acquire(who, _) => self.turn(*who, event),
             Event::Serve(who) => self.turn(*who, event),
             Event::Depart(who) => self.depart(*who),
+            Event::Vanish(who) => Ok(self.vanish(*who)),
+            Event::Lose(who) => self.turn(*who, event),
             _ => unreachable!(),
         }
     }

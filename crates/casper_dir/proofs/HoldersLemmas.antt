@@ -87,6 +87,19 @@ released_reader members crew who made client is =
     cases false true = refl
     cases false false = refl
 
+-- the readers without these clients
+pub readers_without : (crew members rest : List ℕ) → rest ≡ crew_of (λ client. has_member client crew && not (has_member client members)) →
+    (client : ℕ) → IsClient client →
+    right_in client (Readers rest) ≡ cond (has_member client members) None (right_in client (Readers crew))
+readers_without crew members rest made client is =
+    right_in-crew_of (λ c. has_member c crew && not (has_member c members)) rest made client is ∙ cases (has_member client crew) (has_member client members)
+  where
+    cases : (held gone : Bool) → cond (held && not gone) (Some Read) None ≡ cond gone None (cond held (Some Read) None)
+    cases true true = refl
+    cases true false = refl
+    cases false true = refl
+    cases false false = refl
+
 -- the writer as the one reader
 pub lowered_writer : (crew : List ℕ) (who : ℕ) → crew ≡ crew_of (λ client. has_member client [] || nat_eq client who) →
     (client : ℕ) → IsClient client →

@@ -2,7 +2,7 @@ use Rattle.std.proofs.Common.{◌≡◌, ℕ, zero, suc, ◌+◌, ◌<◌, ◌�
 use Rattle.std.proofs.lemmas.Bool.{ne_eqb, cases_eq, cases_lt}
 use Rattle.std.proofs.lemmas.Option.{slice_get_read, slice_get_past}
 use Rattle.casper_words.specs.declared.page.Right.{Right}
-use Rattle.casper_words.specs.Crew.{IsClient}
+use Rattle.casper_words.specs.Crew.{IsClient, has_member}
 use Rattle.casper_dir.specs.declared.holders.Holders.{Holders}
 use Rattle.casper_dir.specs.Holding.{right_in, raised, AreClients}
 use Rattle.casper_dir.specs.Rights.{right_at, ChangesOneRight, RevokesRights, AreAllClients}
@@ -121,24 +121,24 @@ granted_rights old rights page place before now who right same here within read 
         (cases_eq client who)
 
 -- the pages below a place are released
-abbrev pub RevokedBelow : List Holders → List Holders → ℕ → ℕ → Type 0
-RevokedBelow old new who place =
-    (client q : ℕ) → IsClient client → right_at new client q ≡ cond (nat_eq client who && nat_lt q place) None (right_at old client q)
+abbrev pub RevokedBelow : List Holders → List Holders → List ℕ → ℕ → Type 0
+RevokedBelow old new members place =
+    (client q : ℕ) → IsClient client → right_at new client q ≡ cond (has_member client members && nat_lt q place) None (right_at old client q)
 
-pub revoked_none : (rights : List Holders) (who : ℕ) → RevokedBelow rights rights who 0
-revoked_none rights who client q is =
+pub revoked_none : (rights : List Holders) (members : List ℕ) → RevokedBelow rights rights members 0
+revoked_none rights members client q is =
     let past : nat_lt q 0 ≡ false = grind arith in
-    rw past (cases (nat_eq client who) (right_at rights client q))
+    rw past (cases (has_member client members) (right_at rights client q))
   where
     cases : (b : Bool) (x : Option Right) → x ≡ cond (b && false) None x
     cases true x = refl
     cases false x = refl
 
 -- one page more
-pub revoked_more : (old new : List Holders) (who place : ℕ) (before now : Holders) → place < length new → before ≡ get_or new place before →
-    ((client : ℕ) → IsClient client → right_in client now ≡ cond (nat_eq client who) None (right_in client before)) →
-    RevokedBelow old new who place → RevokedBelow old (set new place now) who (place + 1)
-revoked_more old new who place before now within read released below client q is =
+pub revoked_more : (old new : List Holders) (members : List ℕ) (place : ℕ) (before now : Holders) → place < length new → before ≡ get_or new place before →
+    ((client : ℕ) → IsClient client → right_in client now ≡ cond (has_member client members) None (right_in client before)) →
+    RevokedBelow old new members place → RevokedBelow old (set new place now) members (place + 1)
+revoked_more old new members place before now within read released below client q is =
     ⊎_elim
     (λ (same : q ≡ place).
     let at : slice_get new q ≡ Some before = ap (λ p. slice_get new p) same ∙ slice_get_read new (length new) place before refl within read in
@@ -146,8 +146,8 @@ revoked_more old new who place before now within read released below client q is
     let not_yet : nat_lt q place ≡ false = grind arith in
     let done : nat_lt q (place + 1) ≡ true = grind arith in
     let was : right_in client before ≡ right_at old client q =
-    ap (λ o. option_and_then (right_in client) o) (sym at) ∙ rw not_yet at (below client q is) ∙ kept (nat_eq client who) (right_at old client q) in
-    rw (new_at, done) (released client is ∙ ap (λ x. cond (nat_eq client who) None x) was ∙ both (nat_eq client who) (right_at old client q)))
+    ap (λ o. option_and_then (right_in client) o) (sym at) ∙ rw not_yet at (below client q is) ∙ kept (has_member client members) (right_at old client q) in
+    rw (new_at, done) (released client is ∙ ap (λ x. cond (has_member client members) None x) was ∙ both (has_member client members) (right_at old client q)))
     (λ (differ : q ≡ place → ⊥).
     let alike : nat_lt q (place + 1) ≡ nat_lt q place = grind arith in
     rw (slice_get-set_other new place q now differ, alike) (below client q is))
@@ -162,16 +162,16 @@ revoked_more old new who place before now within read released below client q is
     both false x = refl
 
 -- all pages
-pub revoked_all : (old new : List Holders) (who place : ℕ) → length old ≤ place → RevokedBelow old new who place → RevokesRights old new who
-revoked_all old new who place all below client q is =
+pub revoked_all : (old new : List Holders) (members : List ℕ) (place : ℕ) → length old ≤ place → RevokedBelow old new members place → RevokesRights old new members
+revoked_all old new members place all below client q is =
     below client q is ∙
     ⊎_elim
     (λ (within : q < place).
     let done : nat_lt q place ≡ true = grind arith in
-    rw done (both (nat_eq client who) (right_at old client q)))
+    rw done (both (has_member client members) (right_at old client q)))
     (λ (past : place ≤ q).
     let none : slice_get old q ≡ None = slice_get_past old q (omega (arith, all, past)) in
-    rw none (nothing (nat_eq client who) (nat_lt q place)))
+    rw none (nothing (has_member client members) (nat_lt q place)))
     (cases_lt q place)
   where
     both : (b : Bool) (x : Option Right) → cond (b && true) None x ≡ cond b None x

@@ -1,7 +1,7 @@
 use Rattle.std.specs.Prelude.{◌≡◌, ℕ, ◌&&◌, not, ◌==◌, ◌↔◌, if◌then◌else◌, List, [], ◌∷◌, Option, Some, None, slice_get, option_and_then, length}
 use Rattle.casper_words.specs.declared.page.Right.{Right}
 use Rattle.casper_words.specs.declared.page.Right.TheVariants.{Write}
-use Rattle.casper_words.specs.Crew.{IsClient, crew_of}
+use Rattle.casper_words.specs.Crew.{IsClient, has_member, crew_of}
 use Rattle.casper_dir.specs.declared.holders.Holders.{Holders}
 use Rattle.casper_dir.specs.Holding.{right_in, writer_in, reads, is_in_conflict, AreClients}
 
@@ -28,10 +28,10 @@ ChangesOneRight old new who page right =
     (client q : ℕ) → IsClient client →
     right_at new client q ≡ (if client == who && q == page then right else right_at old client q)
 
--- one client holds no page; every right of the others stays
-abbrev pub RevokesRights : List Holders → List Holders → ℕ → Type 0
-RevokesRights old new who =
-    (client q : ℕ) → IsClient client → right_at new client q ≡ (if client == who then None else right_at old client q)
+-- these clients hold no page; every right of the others stays
+abbrev pub RevokesRights : List Holders → List Holders → List ℕ → Type 0
+RevokesRights old new members =
+    (client q : ℕ) → IsClient client → right_at new client q ≡ (if has_member client members then None else right_at old client q)
 
 -- the holders of every page are clients
 abbrev pub AreAllClients : List Holders → Type 0

@@ -107,24 +107,24 @@ impl Directory {
         *holders = holders.lowered(who);
     }
 
-    /// Takes all rights of a client away. It goes over all pages once.
-    pub fn revoke(&mut self, who: Who)
+    /// Takes all rights of these clients away. It goes over all pages once.
+    pub fn revoke(&mut self, members: Crew)
         ensures pages { length self.new ≡ length self.old }
-        ensures rights { RevokesRights self.old self.new who }
+        ensures rights { RevokesRights self.old self.new members }
         ensures clients { AreAllClients self.new }
     {
-        release_each(&mut self.pages, who);
+        release_each(&mut self.pages, members);
     }
 }
 
-/// Takes a client out of the holders of each page.
-fn release_each(pages: &mut [Holders], who: Who)
+/// Takes these clients out of the holders of each page.
+fn release_each(pages: &mut [Holders], members: Crew)
     requires { AreAllClients pages.old }
-    ensures rights { RevokesRights pages.old pages.new who }
+    ensures rights { RevokesRights pages.old pages.new members }
     ensures clients { AreAllClients pages.new }
 {
     for holders in pages.iter_mut() {
-        *holders = holders.released(who);
+        *holders = holders.without(members);
     }
 }
 

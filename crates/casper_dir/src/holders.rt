@@ -1,5 +1,5 @@
 ghost use Rattle.std.specs.Prelude.{◌≡◌, ℕ, ◌==◌, ◌&&◌, not, [], if◌then◌else◌, Some, None};
-ghost use Rattle.casper_words.specs.Crew.{IsClient, crew_of};
+ghost use Rattle.casper_words.specs.Crew.{IsClient, has_member, crew_of};
 
 use casper_words::{Crew, Right, Who};
 
@@ -97,6 +97,26 @@ impl Holders {
             Holders::Readers(crew) => Holders::Readers(crew.without(who)),
             Holders::Writer(writer) => {
                 if writer == who {
+                    Holders::none()
+                } else {
+                    Holders::Writer(writer)
+                }
+            }
+        }
+    }
+
+    /// The holders without the members of a crew.
+    pub fn without(self, members: Crew) -> Holders
+        requires { AreClients self }
+        ensures right { (client : ℕ) → IsClient client
+            → right_in client result
+            ≡ (if has_member client members then None else right_in client self) }
+        ensures clients { AreClients result }
+    {
+        match self {
+            Holders::Readers(crew) => Holders::Readers(crew.minus(members)),
+            Holders::Writer(writer) => {
+                if members.has(writer) {
                     Holders::none()
                 } else {
                     Holders::Writer(writer)

@@ -71,7 +71,7 @@ pub acquire_answered : (shared : Shared) (hub : HubView) (own : cache.Own) (want
     ≡ answered (opened shared (own_of own)) (given_in_opening shared (own_of own)) wants (missing_in hub.pages hub.clients own.client wants)
     (refusal_for hub own wants calls (entry_count (opened shared (own_of own)).shared.trail))
 acquire_answered shared hub own wants calls shows sound owns =
-    ap (acquired_by shared (own_of own) wants calls) (fallen_shown shared hub shows sound own.client)
+    ap (acquired_by shared (own_of own) wants calls) (fallen_shown shared hub own shows owns)
     ∙ ap₂ (λ missing refusal. answered (opened shared (own_of own)) (given_in_opening shared (own_of own)) wants missing refusal)
     (missing_same shared hub own wants shows sound owns) (refusal_same shared hub own wants calls shows sound owns)
 

@@ -27,7 +27,7 @@ use Rattle.casper_hub.specs.Shows.{permits, Shows}
 use Rattle.casper_hub.specs.Owned.{wants_of, own_of}
 use Rattle.casper_hub.specs.Given.{right_kept}
 use Rattle.casper_hub.specs.Deciding.{is_given, is_missing, missing_in, stands_in_the_way, blockers_in, blocked_in}
-use Rattle.casper_hub.proofs.Whole.{Whole, Owning, nobody_fell}
+use Rattle.casper_hub.proofs.Whole.{Whole, Owning}
 use Rattle.casper_hub.proofs.Showing.{allows_right, asks_shown}
 use Rattle.casper_hub.proofs.KeptPages.{any_same, filter_same, asked_same, is_given_up}
 use Rattle.casper_hub.proofs.OpenedTurns.{kept_held, right_kept_held, distinct_kept_held, own_opened, asks_begun, have_rights_held}
@@ -90,7 +90,7 @@ given_same shared hub own shows sound owns page =
     (λ held. ap₂ (λ a b. a || (is_to_write held.right && b)) (asked is_to_write held.page) (asked any_right held.page)) (wants_of own.held))
     ∙ is_given_up (is_asked_for is_to_write hub.clients own.client) (is_asked_for any_right hub.clients own.client) (right_in hub own.client)
     (right_kept hub.pages hub.clients own.client) page own.held owns.sound.distinct (have_rights_held hub own sound owns) (λ page. refl)
-    (owns.rights (nobody_fell hub own.client sound) page)
+    (owns.rights page)
   where
     asked : (test : Right → Bool) (page : ℕ) → opening.is_asked_for test (begun shared (own_of own)).shared own.client page ≡ is_asked_for test hub.clients own.client page
     asked test page =

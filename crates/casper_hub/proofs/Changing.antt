@@ -1,5 +1,8 @@
-use Rattle.std.proofs.Common.{◌≡◌, ◌≢◌, ◌<◌, ℕ, zero, suc, List, [], ◌∷◌, ◌++◌, true, false, cond, ◌==◌, ◌&&◌, ◌^◌, nat_eq, fold, length, set, get_or-set_same, get_or-set_other, length-set, refl, sym, ap, ◌∙◌, subst, ⊎_elim, Contains, arith}
+use Rattle.std.proofs.Common.{◌≡◌, ◌≢◌, ◌<◌, ℕ, zero, suc, List, [], ◌∷◌, ◌++◌, true, false, cond, ◌==◌, ◌&&◌, ◌||◌, ◌^◌, nat_eq, fold, length, set, get_or-set_same, get_or-set_other, length-set, refl, sym, ap, ◌∙◌, subst, ⊎_elim, true≢false, Contains, arith}
 use Rattle.std.specs.Prelude.{Option, None, Some, IsSome}
+use Rattle.std.specs.List.{list_any}
+use Rattle.std.proofs.lemmas.List.Folds.{list_any-append}
+use Rattle.std.proofs.Math.Bool.{or-false}
 use Rattle.std.proofs.lemmas.Bool.{cases_eq, ne_eqb, eqb-true, and_left, cond-false}
 use Rattle.casper_words.specs.Crew.{IsClient, has_member}
 use Rattle.casper_words.proofs.CrewLemmas.{client_from_member}
@@ -9,13 +12,15 @@ use Rattle.casper_words.specs.declared.page.Want.{Want}
 use Rattle.casper_trail.specs.declared.entry.Entry.{Entry}
 use Rattle.casper_trail.specs.declared.item.Item.{Item}
 use Rattle.casper_trail.specs.Value.{value_of, value_after, writes_page}
-use Rattle.casper_trail.specs.Parts.{as_items, live_entries, stable_entries}
+use Rattle.casper_trail.specs.Modified.{is_modified}
+use Rattle.casper_trail.specs.Parts.{as_items, live_entries, open_entries, stable_entries}
 use Rattle.casper_trail.proofs.Values.{value_of_more}
-use Rattle.casper_trail.proofs.Parts.{live_of_more_entries, stable_of_more_entries}
+use Rattle.casper_trail.proofs.Parts.{live_of_more_entries, open_of_more_entries, stable_of_more_entries}
 use Rattle.casper_trail.proofs.LinkLists.{contains_there}
 use Rattle.casper_dir.specs.declared.holders.Holders.{Holders}
 use Rattle.casper_dir.specs.declared.holders.Holders.TheVariants.{Readers, Writer}
 use Rattle.casper_dir.specs.Rights.{right_at, AreAllClients}
+use Rattle.casper_turns.proofs.Lists.{any_none}
 use Rattle.casper_hub.specs.HubView.{HubView, ClientView, PagesView, client_in, asks_of, frame_in, page_count}
 use Rattle.casper_hub.specs.Sound.{IsWellFormed, IsPlain}
 
@@ -77,9 +82,23 @@ pub stored_stays : (base : List (List ℕ)) (trail : List Item) (more : List Ent
     → value_of base (stable_entries (trail ++ as_items more)) page word ≡ value_of base (stable_entries trail) page word
 stored_stays base trail more page word = ap (λ entries. value_of base entries page word) (stable_of_more_entries trail more)
 
--- a client of which no outcome is kept and that has not fallen
+-- more entries modify the pages that they write
+pub modified_more : (trail : List Item) (more : List Entry) (page : ℕ)
+    → is_modified (trail ++ as_items more) page ≡ (is_modified trail page || list_any (writes_page page) more)
+modified_more trail more page =
+    ap (list_any (writes_page page)) (open_of_more_entries trail more) ∙ list_any-append (writes_page page) (open_entries trail) more
+
+-- so a page that they do not write is modified as before
+pub modified_elsewhere : (trail : List Item) (more : List Entry) (page : ℕ) → ((entry : Entry) → Contains more entry → writes_page page entry ≡ false)
+    → is_modified (trail ++ as_items more) page ≡ is_modified trail page
+modified_elsewhere trail more page apart =
+    modified_more trail more page
+    ∙ ap (λ b. is_modified trail page || b) (any_none (writes_page page) more (λ entry inside writes. true≢false (sym writes ∙ apart entry inside)))
+    ∙ or-false (is_modified trail page)
+
+-- a client of which no outcome is kept
 abbrev pub IsPlainPlace : Option ClientView → Type 0
-IsPlainPlace place = (client : ClientView) → place ≡ Some client → (client.kept ≡ None) × (client.fallen ≡ None)
+IsPlainPlace place = (client : ClientView) → place ≡ Some client → client.kept ≡ None
 
 -- a hub of which the trail, one client and the pages change
 abbrev pub changed : HubView → List Item → ℕ → Option ClientView → PagesView → HubView
@@ -121,12 +140,12 @@ module _ (hub : HubView) (trail : List Item) (who : ℕ) (place : Option ClientV
       any : (other page : ℕ) → other ≢ who → right_at pages.rights other page ≡ right_at hub.pages.rights other page
       any other page differ = same_rights hub.pages.rights pages.rights page other formed.holders holders (λ is. others other page is differ)
 
-  -- and no client has fallen where that one has not
+  -- and no outcome is kept where none is for that one
   pub plain_changed : IsPlain hub → length hub.clients ≡ 33 → IsClient who → IsPlainPlace place → IsPlain (changed hub trail who place pages)
-  plain_changed plain long client up = record {
+  plain_changed plain long client unkept = record {
     quiet = plain.quiet;
-    up = λ other one is. ⊎_elim
-        (λ same. up one (sym (changed_here long client) ∙ sym (ap (λ (w : ℕ). client_in (changed hub trail who place pages) w) same) ∙ is))
-        (λ differ. plain.up other one (sym (changed_elsewhere other differ) ∙ is))
+    unkept = λ other one is. ⊎_elim
+        (λ same. unkept one (sym (changed_here long client) ∙ sym (ap (λ (w : ℕ). client_in (changed hub trail who place pages) w) same) ∙ is))
+        (λ differ. plain.unkept other one (sym (changed_elsewhere other differ) ∙ is))
         (cases_eq other who);
   }

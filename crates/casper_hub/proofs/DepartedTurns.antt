@@ -121,7 +121,7 @@ depart_turn hub own after own_after sound owns leaves sound_opened = record {
     turn : (shared : Shared) → Shows shared hub
         → (served.Ok ≡ (depart shared (own_of own)).reply) × Shows (depart shared (own_of own)).shared after × (own_of own_after ≡ (depart shared (own_of own)).own)
     turn shared shows =
-        departed_turn shared hub own after own_after shows sound owns leaves sound_opened (fallen_at shared own.client) (fallen_shown shared hub shows sound own.client)
+        departed_turn shared hub own after own_after shows sound owns leaves sound_opened (fallen_at shared own.client) (fallen_shown shared hub own shows owns)
 
 -- the asks of a client replaced, as the machine has it and as its hub has it
 shown_with_asks : (trail : List Item) (asks : List Want) (place : Option Client) (shown : Option ClientView)

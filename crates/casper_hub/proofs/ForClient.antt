@@ -6,13 +6,13 @@ use Rattle.casper_dir.specs.Rights.{right_at}
 use Rattle.casper_cache.specs.declared.held.Held.{Held}
 use Rattle.casper_cache.specs.Holding.{right_of}
 use Rattle.casper_cache.specs.Own as cache
-use Rattle.casper_hub.specs.HubView.{HubView, ClientView, PagesView, place_in, cap_in, right_in, with_asks}
+use Rattle.casper_hub.specs.HubView.{HubView, ClientView, PagesView, place_in, cap_in, right_in, fallen_in, with_asks}
 use Rattle.casper_hub.specs.HubFields.{hub_of}
 use Rattle.casper_hub.specs.Given.{Covers, GivesUp}
 use Rattle.casper_hub.specs.Stages.{Opens, Refuses, Leaves}
 use Rattle.casper_hub.specs.Owned.{Owns}
 use Rattle.casper_hub.specs.Sound.{IsSound, IsPlain}
-use Rattle.casper_hub.proofs.Whole.{whole, owning}
+use Rattle.casper_hub.proofs.Whole.{Owning, whole, owning}
 use Rattle.casper_hub.proofs.Opened.{covers_owned, opened_rights}
 use Rattle.casper_hub.specs.GoesOn.{KeepsClient, CommitsNothing}
 use Rattle.casper_hub.proofs.Giving.{covers_after}
@@ -20,10 +20,15 @@ use Rattle.casper_hub.proofs.Relying.{kept_itself, nothing_itself}
 
 -- What holds for the client of a cache, said of its number.
 
+-- a hub owns the cache of a client that has not fallen
+pub owning_for : (who : ℕ) (hub : HubView) (own : cache.Own) → own.client ≡ who → IsSound hub → Owns hub own → fallen_in hub who ≡ None → Owning hub own
+owning_for who hub own is sound owns up = owning hub own sound owns (ap (fallen_in hub) is ∙ up)
+
 -- a hub that owns a cache covers it
-pub covers_for : (who : ℕ) (hub : HubView) (own : cache.Own) → own.client ≡ who → IsSound hub → IsPlain hub → Owns hub own → Covers who hub.pages own.held
-covers_for who hub own is sound plain owns =
-    subst (λ (w : ℕ). Covers w hub.pages own.held) is (covers_owned hub own (whole hub sound plain) (owning hub own sound owns))
+pub covers_for : (who : ℕ) (hub : HubView) (own : cache.Own) → own.client ≡ who → IsSound hub → IsPlain hub → Owns hub own → fallen_in hub who ≡ None
+    → Covers who hub.pages own.held
+covers_for who hub own is sound plain owns up =
+    subst (λ (w : ℕ). Covers w hub.pages own.held) is (covers_owned hub own (whole hub sound plain) (owning_for who hub own is sound owns up))
 
 -- what opened a turn of this client opened one of the cache's
 pub opens_for : (who limit : ℕ) (items trail : List Item) (places : List (Option ClientView)) (pages : PagesView) (own own_after : cache.Own) (after : HubView) → own.client ≡ who → items ≡ trail
@@ -43,17 +48,17 @@ refuses_for who asks hub own trail limit places after pages own_after is opens c
 }
 
 -- after an opening the cache covers its client's rights
-pub covers_opened_for : (who : ℕ) (hub : HubView) (own : cache.Own) (after : HubView) (own_after : cache.Own) → own.client ≡ who → IsSound hub → IsPlain hub → Owns hub own
+pub covers_opened_for : (who : ℕ) (hub : HubView) (own : cache.Own) (after : HubView) (own_after : cache.Own) → own.client ≡ who → IsSound hub → IsPlain hub → Owns hub own → fallen_in hub who ≡ None
     → Opens own.client hub own after own_after → Covers who after.pages own_after.held
-covers_opened_for who hub own after own_after is sound plain owns opens =
+covers_opened_for who hub own after own_after is sound plain owns up opens =
     subst (λ (w : ℕ). Covers w after.pages own_after.held) is
-    (covers_after own.client hub.pages after.pages own.held own_after.held (covers_owned hub own (whole hub sound plain) (owning hub own sound owns)) opens.gives)
+    (covers_after own.client hub.pages after.pages own.held own_after.held (covers_owned hub own (whole hub sound plain) (owning_for who hub own is sound owns up)) opens.gives)
 
 -- and has just those
-pub rights_opened_for : (who : ℕ) (hub : HubView) (own : cache.Own) (after : HubView) (own_after : cache.Own) → own.client ≡ who → IsSound hub → IsPlain hub → Owns hub own
+pub rights_opened_for : (who : ℕ) (hub : HubView) (own : cache.Own) (after : HubView) (own_after : cache.Own) → own.client ≡ who → IsSound hub → IsPlain hub → Owns hub own → fallen_in hub who ≡ None
     → Opens own.client hub own after own_after → (page : ℕ) → right_at after.pages.rights who page ≡ right_of page own_after.held
-rights_opened_for who hub own after own_after is sound plain owns opens page =
-    ap (λ w. right_in after w page) (sym is) ∙ opened_rights hub own after own_after (owning hub own sound owns) opens (whole hub sound plain) page
+rights_opened_for who hub own after own_after is sound plain owns up opens page =
+    ap (λ w. right_in after w page) (sym is) ∙ opened_rights hub own after own_after (owning_for who hub own is sound owns up) opens (whole hub sound plain) page
 
 -- a client that then gave up every page and became absent left
 pub leaves_for : (who : ℕ) (hub : HubView) (own : cache.Own) (trail : List Item) (limit : ℕ) (places places_after : List (Option ClientView)) (pages pages_after : PagesView)
@@ -73,8 +78,8 @@ leaves_for who hub own trail limit places places_after pages pages_after own_ope
 }
 
 -- the server knows the cap of the cache
-pub cap_for : (who : ℕ) (hub : HubView) (own : cache.Own) → own.client ≡ who → IsSound hub → Owns hub own → cap_in hub who ≡ own.cap
-cap_for who hub own is sound owns = ap (λ (w : ℕ). cap_in hub w) (sym is) ∙ (owning hub own sound owns).cap
+pub cap_for : (who : ℕ) (hub : HubView) (own : cache.Own) → own.client ≡ who → IsSound hub → Owns hub own → fallen_in hub who ≡ None → cap_in hub who ≡ own.cap
+cap_for who hub own is sound owns up = ap (λ (w : ℕ). cap_in hub w) (sym is) ∙ (owning_for who hub own is sound owns up).cap
 
 -- room taken in the trail changes nothing
 module _ (hub : HubView) (limit : ℕ) (items trail : List Item) (places : List (Option ClientView)) (pages : PagesView) (view : hub_of trail limit places pages ≡ hub) (same : items ≡ trail) where

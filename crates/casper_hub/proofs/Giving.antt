@@ -13,7 +13,7 @@ use Rattle.casper_cache.specs.Holding.{entry_of, right_of, words_of, others, low
 use Rattle.casper_cache.proofs.Entries.{entry_of-page}
 use Rattle.casper_model.specs.Held.{is_to_write}
 use Rattle.casper_hub.specs.HubView.{PagesView, frame_in}
-use Rattle.casper_hub.specs.Words.{ServerIsRight, HeldIsRight, AreWords}
+use Rattle.casper_hub.specs.Words.{HasNoOpenWriter, ServerIsRight, HeldIsRight, AreWords}
 use Rattle.casper_hub.specs.Given.{left_of, kept_as, Falls, GivesUp, Covers, handed_in, writes}
 use Rattle.casper_hub.proofs.Left.{AreAsHeld, are_as_held, kept-itself, kept-twice, kept-lowered, kept-others, words-kept, entry_of-kept, distinct-kept}
 
@@ -66,7 +66,7 @@ gives_itself who pages held covers = record {
   falls = λ page. falls_itself (right_at pages.rights who page);
   held_is = sym (kept-itself (right_at pages.rights who) held (held_as_covered who pages held covers));
   framed = λ page is. is;
-  words = λ value stored server own. server;
+  words = λ modified value stored server own. server;
 }
 
 -- the words of what is left are right where those that were held are
@@ -91,8 +91,8 @@ gives_again who pages between after held held_between held_after f g = record {
   held_is = g.held_is ∙ ap (filter_map (kept_as (right_at between.rights who) (right_at after.rights who))) f.held_is
       ∙ kept-twice (right_at pages.rights who) (right_at between.rights who) (right_at after.rights who) held f.falls g.falls;
   framed = λ page is. g.framed page (f.framed page is);
-  words = λ value stored server own.
-      g.words value stored (f.words value stored server own)
+  words = λ modified value stored server own.
+      g.words modified value stored (f.words modified value stored server own)
       (subst (λ (l : List Held). HeldIsRight value l) (sym f.held_is) (held_right_kept value (right_at pages.rights who) (right_at between.rights who) held own));
 }
 
@@ -162,18 +162,11 @@ no_writer_beside (Writer writer ∷ rest) zero who e =
     (elim (nat_eq who writer) as (λ b. cond {A = Option Right} b (Some may.Write) None ≡ Some may.Read → Some writer ≡ None) [ true ↦ λ h. cc | false ↦ λ h. cc ]) e
 no_writer_beside (holders ∷ rest) (suc page) who e = no_writer_beside rest page who e
 
--- who has the same rights to a page as before writes it as before
-pub same_writer : (rights now : List Holders) (page : ℕ) → AreAllClients rights → ((client : ℕ) → IsClient client → right_at now client page ≡ right_at rights client page) →
-    writer_at now page ≡ None → writer_at rights page ≡ None
-same_writer rights now page all same none =
-    (elim (writer_at rights page) as (λ o. writer_at rights page ≡ o → o ≡ None) [
-      | None ↦ λ _. refl
-      | Some writer ↦ λ is.
-          let client : IsClient writer = writer_is_client rights page writer all is in
-          let held : right_at now writer page ≡ Some may.Write = same writer client ∙ (writer_holds_to_write rights page writer).0 is in
-          let again : writer_at now page ≡ Some writer = (writer_holds_to_write now page writer).1 held in
-          cc
-    ]) refl
+-- a writer that has the same right to its page as before writes it still
+pub writer_stays : (rights now : List Holders) (page writer : ℕ) → AreAllClients rights → (IsClient writer → right_at now writer page ≡ right_at rights writer page) →
+    writer_at rights page ≡ Some writer → writer_at now page ≡ Some writer
+writer_stays rights now page writer all same is =
+    (writer_holds_to_write now page writer).1 (same (writer_is_client rights page writer all is) ∙ (writer_holds_to_write rights page writer).0 is)
 
 -- a page whose frame there is, is within the frames
 within_frames : (frames : List (Option (List ℕ))) (page : ℕ) → IsSome (get_or frames page None) → page < length frames
@@ -223,9 +216,9 @@ gives_one who page keep right pages after held covers was writer count changes h
       (cases_eq q page);
   held_is = left_over keep here;
   framed = λ q is. subst (λ (o : Option (List ℕ)). IsSome o) (sym (frame_of q)) (still_framed q (is_to_write right && nat_eq q page) is);
-  words = λ value stored server own q none.
+  words = λ modified value stored server own q none.
       subst (λ (o : Option (List ℕ)). MatchOption o ((word : ℕ) → word < 512 → value q word ≡ stored q word) (λ words. AreWords value q words)) (sym (frame_of q))
-      (right_words value stored server own q none);
+      (right_words modified value stored server own q none);
 }
   where
     here : right_at after.rights who page ≡ cond keep (Some may.Read) None
@@ -270,9 +263,9 @@ gives_one who page keep right pages after held covers was writer count changes h
     own_words value stored q None is h = cc
     own_words value stored q (Some words) is h = h
 
-    right_words : (value stored : ℕ → ℕ → ℕ) → ServerIsRight value stored pages → HeldIsRight value held → (q : ℕ) → writer_at after.rights q ≡ None →
+    right_words : (modified : ℕ → Bool) (value stored : ℕ → ℕ → ℕ) → ServerIsRight modified value stored pages → HeldIsRight value held → (q : ℕ) → HasNoOpenWriter modified after q →
         MatchOption (cond (is_to_write right && nat_eq q page) (words_of page held) (frame_in pages q)) ((word : ℕ) → word < 512 → value q word ≡ stored q word) (λ words. AreWords value q words)
-    right_words value stored server own q none =
+    right_words modified value stored server own q none =
         ⊎_elim
         (λ (same : q ≡ page).
         subst (λ (b : Bool). MatchOption (cond (is_to_write right && b) (words_of page held) (frame_in pages q)) ((word : ℕ) → word < 512 → value q word ≡ stored q word) (λ words. AreWords value q words))
@@ -281,15 +274,15 @@ gives_one who page keep right pages after held covers was writer count changes h
         subst (λ (b : Bool). MatchOption (cond (is_to_write right && b) (words_of page held) (frame_in pages q)) ((word : ℕ) → word < 512 → value q word ≡ stored q word) (λ words. AreWords value q words))
         (sym (ne_eqb q page differ))
         (of_others (is_to_write right)
-        (server q
-        (same_writer pages.rights after.rights q covers.holders
-        (λ client is. changed_elsewhere pages.rights after.rights who page (cond keep (Some may.Read) None) changes client q is differ) none))))
+        (server q (λ writer is.
+        none writer (writer_stays pages.rights after.rights q writer covers.holders
+        (λ client. changed_elsewhere pages.rights after.rights who page (cond keep (Some may.Read) None) changes writer q client differ) is)))))
         (cases_eq q page)
       where
         of_page : (r : Right) → right_at pages.rights who page ≡ Some r → q ≡ page →
             MatchOption (cond (is_to_write r && true) (words_of page held) (frame_in pages q)) ((word : ℕ) → word < 512 → value q word ≡ stored q word) (λ words. AreWords value q words)
         of_page may.Read e same =
-            server q (ap (writer_at pages.rights) same ∙ no_writer_beside pages.rights page who e)
+            server q (λ writer is. let nobody : writer_at pages.rights q ≡ None = ap (writer_at pages.rights) same ∙ no_writer_beside pages.rights page who e in cc)
         of_page may.Write e same =
             own_words value stored q (words_of page held) is_held
             (subst (λ (p : ℕ). IfSome (words_of page held) (λ words. AreWords value p words)) (sym same) (own page))

@@ -104,7 +104,7 @@ granted_shows shared hub own wants missing after own_after shows sound owns gran
     shows_opened = opened_shows shared hub own (with_pages hub.pages own.held missing) grants.opened grants.opened_own shows sound owns grants.opens
 
     live : Live shared hub own.client
-    live = live_shown shared hub own.client shows sound owns.live
+    live = live_shown shared hub own.client shows sound owns.live owns.up
 
     machine_own : both_after.own ≡ record (own_of own) { cap = topped own (free_in hub) - length missing; held = with_granted own.capacity wants (wants_of (kept_held hub own)); pending = [] }
     machine_own = own_granted shared hub own wants missing shows sound owns

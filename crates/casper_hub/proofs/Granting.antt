@@ -1,17 +1,18 @@
 use Rattle.std.proofs.Common.{◌≡◌, ◌<◌, ◌≤◌, ℕ, ◌-◌, ◌∙◌, List, [], ◌++◌, true, length, take, get_or, sym, ap, subst, arith}
-use Rattle.std.specs.Prelude.{Option, None, Some, IsSome, is_some, MatchOption, min}
+use Rattle.std.specs.Prelude.{Option, None, Some, IsSome, is_some, option_and_then, MatchOption, min}
 use Rattle.std.proofs.Math.Nat.{min-le_left}
 use Rattle.std.proofs.lemmas.List.{length-take}
 use Rattle.casper_words.specs.declared.page.Right.TheVariants as may
 use Rattle.casper_words.specs.declared.page.Want.{Want}
 use Rattle.casper_trail.specs.declared.item.Item.{Item}
+use Rattle.casper_trail.specs.Modified.{is_modified}
 use Rattle.casper_trail.specs.Parts.{as_items}
 use Rattle.casper_dir.specs.Rights.{right_at}
 use Rattle.casper_cache.specs.declared.held.Held.{Held}
 use Rattle.casper_cache.specs.Holding.{ArePagesDistinct}
 use Rattle.casper_cache.specs.Own as cache
 use Rattle.casper_model.specs.Acquire.{touches_by}
-use Rattle.casper_hub.specs.HubView.{HubView, PagesView, ClientView, client_in, frame_in, page_count, with_cap, with_asks, is_live}
+use Rattle.casper_hub.specs.HubView.{HubView, PagesView, ClientView, client_in, frame_in, page_count, fallen_in, with_cap, with_asks, is_live}
 use Rattle.casper_hub.specs.Words.{live_value, stored_value, seen_value, AreWords, ServerIsRight, HeldIsRight, FramesAreRight, CacheIsRight}
 use Rattle.casper_hub.specs.Installing.{with_pages, all_raised, all_fronted}
 use Rattle.casper_hub.specs.Stages.{CanGrant, Grants}
@@ -20,9 +21,9 @@ use Rattle.casper_hub.proofs.Whole.{Whole, Owning}
 use Rattle.casper_hub.proofs.Left.{distinct-kept}
 use Rattle.casper_hub.proofs.Giving.{writes_before, held_right_kept}
 use Rattle.casper_hub.proofs.Relying.{same_held}
-use Rattle.casper_hub.proofs.Changing.{changed_here, live_elsewhere, stored_stays, formed_changed, plain_changed}
-use Rattle.casper_hub.proofs.Opened.{Begins, live_with_cap, plain_with_cap, seen_without_calls, same_server, opened_sound, opened_live, opened_frames, opened_words}
-use Rattle.casper_hub.proofs.Refused.{live_with_asks, plain_with_asks, asks_in_range}
+use Rattle.casper_hub.proofs.Changing.{changed, changed_here, live_elsewhere, stored_stays, modified_elsewhere, formed_changed, plain_changed}
+use Rattle.casper_hub.proofs.Opened.{Begins, live_with_cap, plain_with_cap, fallen_with_cap, opened_up, seen_without_calls, same_server, opened_sound, opened_live, opened_frames, opened_words}
+use Rattle.casper_hub.proofs.Refused.{live_with_asks, plain_with_asks, fallen_with_asks, asks_in_range}
 use Rattle.casper_hub.proofs.Installed.{distinct_with_pages, missing_framed, begins_installed, words_installed}
 use Rattle.casper_hub.proofs.Raised.{distinct_raised, distinct_fronted, right_raised, right_fronted, granted_from, granted_writer}
 use Rattle.casper_hub.proofs.Touched.{touches_write_nothing}
@@ -48,6 +49,12 @@ pub opened_is_sound : (hub : HubView) (own : cache.Own) (wants missing : List Wa
     → Whole turn.grants.opened
 opened_is_sound hub own wants missing after own_after turn =
     opened_sound hub own (with_pages hub.pages own.held missing) turn.grants.opened turn.grants.opened_own (begins hub own wants missing after own_after turn) turn.owns turn.grants.opens
+
+-- the client has not fallen once its turn has opened
+up_opened : (hub : HubView) (own : cache.Own) (wants missing : List Want) (after : HubView) (own_after : cache.Own) (turn : Granting hub own wants missing after own_after)
+    → fallen_in turn.grants.opened turn.grants.opened_own.client ≡ None
+up_opened hub own wants missing after own_after turn =
+    opened_up own.client hub (installed_in hub own missing) turn.grants.opened turn.grants.opened_own (begins hub own wants missing after own_after turn) turn.grants.opens
 
 -- the client's place once its rights are given
 abbrev pub granted_place : ℕ → ℕ → HubView → Option ClientView
@@ -101,7 +108,7 @@ module _ (hub : HubView) (own : cache.Own) (wants missing : List Want) (after : 
       subst IsPlain (sym turn.grants.hub_is)
       (plain_changed turn.grants.opened trail_granted own.client place_granted after.pages whole_before.plain whole_before.places turn.owns.client
       (plain_with_asks [] (with_cap (turn.grants.opened_own.cap - length missing) (client_in turn.grants.opened own.client))
-      (plain_with_cap (turn.grants.opened_own.cap - length missing) (client_in turn.grants.opened own.client) (whole_before.up own.client))))
+      (plain_with_cap (turn.grants.opened_own.cap - length missing) (client_in turn.grants.opened own.client) (whole_before.unkept own.client))))
 
   same_client : own_after.client ≡ own.client
   same_client = ap (λ (o : cache.Own). o.client) turn.grants.own_is ∙ ap (λ (o : cache.Own). o.client) turn.grants.opens.own_is
@@ -115,6 +122,18 @@ module _ (hub : HubView) (own : cache.Own) (wants missing : List Want) (after : 
       ∙ ap is_some (changed_here turn.grants.opened trail_granted own.client place_granted after.pages whole_before.places turn.owns.client)
       ∙ place_live (turn.grants.opened_own.cap - length missing) own.client turn.grants.opened
       (opened_live own.client hub (installed_in hub own missing) turn.grants.opened turn.grants.opened_own (begins hub own wants missing after own_after turn) turn.grants.opens)
+
+  -- and the client has not fallen
+  pub up_granted : fallen_in after own_after.client ≡ None
+  up_granted =
+      ap (λ (h : HubView). fallen_in h own_after.client) turn.grants.hub_is
+      ∙ ap (λ (w : ℕ). fallen_in (changed turn.grants.opened trail_granted own.client place_granted after.pages) w) same_client
+      ∙ ap (option_and_then (λ (client : ClientView). client.fallen))
+      (changed_here turn.grants.opened trail_granted own.client place_granted after.pages whole_before.places turn.owns.client)
+      ∙ fallen_with_asks [] (with_cap (turn.grants.opened_own.cap - length missing) (client_in turn.grants.opened own.client))
+      ∙ fallen_with_cap (turn.grants.opened_own.cap - length missing) (client_in turn.grants.opened own.client)
+      ∙ ap (fallen_in turn.grants.opened) (sym (ap (λ (o : cache.Own). o.client) turn.grants.opens.own_is))
+      ∙ up_opened hub own wants missing after own_after turn
 
 -- the pages that the client holds once its rights are given
 abbrev pub held_granted : cache.Own → List Want → List Want → List Held
@@ -160,7 +179,7 @@ held_is_right base hub own wants missing after own_after turn frames words =
     (right_raised (live_value base opened) opened_own.held missing
     (same_held (seen_value base opened opened_own) (live_value base opened) opened_own.held
     (λ page word held.
-    seen_without_calls base opened opened_own (opened_is_sound hub own wants missing after own_after turn).plain (ap (λ (o : cache.Own). o.pending) turn.grants.opens.own_is) page word)
+    seen_without_calls base opened opened_own (up_opened hub own wants missing after own_after turn) (ap (λ (o : cache.Own). o.pending) turn.grants.opens.own_is) page word)
     (opened_words base own.client hub (installed_in hub own missing) opened opened_own (begins hub own wants missing after own_after turn) turn.grants.opens
     (words_installed base hub own wants missing turn.sound turn.owns turn.can frames words))))
   where
@@ -181,8 +200,9 @@ granted_live base hub own wants missing after own_after turn page word =
 pub granted_frames : (base : List (List ℕ)) (hub : HubView) (own : cache.Own) (wants missing : List Want) (after : HubView) (own_after : cache.Own)
     → Granting hub own wants missing after own_after → FramesAreRight base hub → CacheIsRight base hub own → FramesAreRight base after
 granted_frames base hub own wants missing after own_after turn frames words =
-    grants.gives.words (live_value base after) (stored_value base after)
-    (same_server (live_value base opened) (stored_value base opened) (live_value base after) (stored_value base after) grants.granted
+    grants.gives.words (is_modified after.trail) (live_value base after) (stored_value base after)
+    (same_server (is_modified opened.trail) (is_modified after.trail) (live_value base opened) (stored_value base opened) (live_value base after) (stored_value base after) grants.granted
+    (λ page none writer is. sym (touched page) ∙ none writer is)
     (λ page word none. sym (granted_live base hub own wants missing after own_after turn page word))
     (λ page word. sym (ap (λ (h : HubView). stored_value base h page word) grants.hub_is ∙ stored_stays base opened.trail (touches_by own.client missing) page word))
     server)
@@ -201,13 +221,19 @@ granted_frames base hub own wants missing after own_after turn frames words =
         opened_frames base own.client hub (installed_in hub own missing) opened grants.opened_own (begins hub own wants missing after own_after turn) grants.opens frames
         (words_installed base hub own wants missing turn.sound turn.owns turn.can frames words)
 
-    server : ServerIsRight (live_value base opened) (stored_value base opened) grants.granted
+    -- touches modify nothing
+    touched : (page : ℕ) → is_modified after.trail page ≡ is_modified opened.trail page
+    touched page =
+        ap (λ (h : HubView). is_modified h.trail page) grants.hub_is
+        ∙ modified_elsewhere opened.trail (touches_by own.client missing) page (touches_write_nothing own.client missing page)
+
+    server : ServerIsRight (is_modified opened.trail) (live_value base opened) (stored_value base opened) grants.granted
     server page none =
         subst (λ (all : List (Option (List ℕ))). MatchOption (get_or all page None) ((word : ℕ) → word < 512 → live_value base opened page word ≡ stored_value base opened page word)
         (λ words. AreWords (live_value base opened) page words)) (sym grants.granted_frames)
-        (right_before page (granted_writer own.client opened.pages.rights grants.granted.rights page missing
+        (right_before page (λ writer is. none writer (granted_writer own.client opened.pages.rights grants.granted.rights page missing
         (opened_is_sound hub own wants missing after own_after turn).holders (grants.granted_rights page)
-        (λ client is differ. grants.granted_others client page is differ) none))
+        (λ client one differ. grants.granted_others client page one differ) writer is)))
 
 -- and so do those of the cache
 pub granted_words : (base : List (List ℕ)) (hub : HubView) (own : cache.Own) (wants missing : List Want) (after : HubView) (own_after : cache.Own)
@@ -217,7 +243,7 @@ granted_words base hub own wants missing after own_after turn frames words =
     (held_right_kept (seen_value base after own_after) (right_at grants.granted.rights own.client) (right_at after.pages.rights own.client) (held_granted grants.opened_own wants missing)
     (same_held (live_value base grants.opened) (seen_value base after own_after) (held_granted grants.opened_own wants missing)
     (λ page word held.
-    sym (seen_without_calls base after own_after (granted_plain hub own wants missing after own_after turn)
+    sym (seen_without_calls base after own_after (up_granted hub own wants missing after own_after turn)
     (ap (λ (o : cache.Own). o.pending) grants.own_is ∙ ap (λ (o : cache.Own). o.pending) grants.opens.own_is) page word
     ∙ granted_live base hub own wants missing after own_after turn page word))
     (held_is_right base hub own wants missing after own_after turn frames words)))

@@ -135,3 +135,13 @@ room_ready hub own wants missing opened opened_own ready =
     opened_cap own.client hub (installed_in hub own missing) opened opened_own begins ready.opens ∙ ap (λ (o : cache.Own). o.cap) ready.opens.own_is in
     let room = ready.can.room in
     omega (arith, within, cap, room)
+
+-- the client has been promised so many more entries
+pub cap_ready : (hub : HubView) (own : cache.Own) (wants missing : List Want) (opened : HubView) (opened_own : cache.Own) → Ready hub own wants missing opened opened_own
+    → length missing ≤ cap_in opened own.client
+cap_ready hub own wants missing opened opened_own ready =
+    let begins = begins_installed hub own missing ready.sound ready.owns in
+    let cap : cap_in opened own.client ≡ topped own (free_in hub) =
+    opened_cap own.client hub (installed_in hub own missing) opened opened_own begins ready.opens ∙ ap (λ (o : cache.Own). o.cap) ready.opens.own_is in
+    let room = ready.can.room in
+    omega (arith, cap, room)

@@ -23,7 +23,7 @@ use Rattle.casper_hub.specs.Deciding.{stands_in_the_way, is_given}
 use Rattle.casper_hub.specs.Asks.{asks_for}
 use Rattle.casper_model.specs.Opening.{any_right}
 use Rattle.casper_hub.specs.Stages.{CanGrant}
-use Rattle.casper_hub.proofs.Whole.{Whole, Owning, nobody_fell}
+use Rattle.casper_hub.proofs.Whole.{Whole, Owning}
 use Rattle.casper_hub.proofs.Giving.{writer_is_client}
 use Rattle.casper_hub.proofs.Relying.{seen_plain, same_words}
 use Rattle.casper_hub.proofs.Changing.{values_stay}
@@ -174,6 +174,7 @@ pub begins_installed : (hub : HubView) (own : cache.Own) (missing : List Want) �
 begins_installed hub own missing sound owns = record {
   sound = sound;
   live = owns.live;
+  up = owns.up;
   cap = owns.cap;
   client = refl;
   covers = record {
@@ -196,13 +197,13 @@ words_installed base hub own wants missing sound owns can frames words =
   where
     installed : (want : Want) → Contains missing want → entry_of want.page own.held ≡ None → AreWords (seen_value base hub own) want.page (unwrap_or (frame_in hub.pages want.page) [])
     installed want inside none =
-        let absent : right_in hub own.client want.page ≡ None = owns.rights (nobody_fell hub own.client sound) want.page ∙ ap (option_map (λ (h : Held). h.right)) none in
+        let absent : right_in hub own.client want.page ≡ None = owns.rights want.page ∙ ap (option_map (λ (h : Held). h.right)) none in
         same_words (live_value base hub) (seen_value base hub own) want.page (unwrap_or (frame_in hub.pages want.page) [])
-        (λ word. sym (seen_plain base hub own want.page word (nobody_fell hub own.client sound)
+        (λ word. sym (seen_plain base hub own want.page word owns.up
         ∙ values_stay want.page word (live_value base hub want.page word) (entries_by own.client own.pending)
         (unwritten own.client hub.pages own.pending want.page (writes_owned hub own sound owns) (λ writes. true≢false (sym (ap is_some writes) ∙ ap is_some absent)))))
         (of_frame want.page (frame_in hub.pages want.page) (missing_framed own.client hub own wants missing can want inside)
-        (frames want.page (no_writer_missing own.client hub own wants missing sound can want inside absent)))
+        (frames want.page (λ writer is. let nobody = no_writer_missing own.client hub own wants missing sound can want inside absent in cc)))
       where
         of_frame : (page : ℕ) (o : Option (List ℕ)) → IsSome o → MatchOption o ((word : ℕ) → word < 512 → live_value base hub page word ≡ stored_value base hub page word) (λ words. AreWords (live_value base hub) page words)
             → AreWords (live_value base hub) page (unwrap_or o [])

@@ -107,7 +107,7 @@ joined_formed hub who cap formed client =
 pub joined_plain : (hub : HubView) (who cap : ℕ) → Whole hub → IsClient who → IsPlain (with_client hub who cap)
 joined_plain hub who cap sound client =
     plain_changed hub hub.trail who (Some (new_client_view cap)) hub.pages sound.plain sound.places client
-    (λ one is. let same : new_client_view cap ≡ one = cc in subst (λ (v : ClientView). (v.kept ≡ None) × (v.fallen ≡ None)) same (refl, refl))
+    (λ one is. let same : new_client_view cap ≡ one = cc in subst (λ (v : ClientView). v.kept ≡ None) same refl)
 
 -- after a join the hub stands for the machine after it
 joined_shows : (shared : Shared) (hub : HubView) (who cap : ℕ) → Shows shared hub → Whole hub → IsClient who → is_some (client_in hub who) ≡ false

@@ -1,14 +1,15 @@
 use Rattle.std.proofs.Common.{ℕ, List, [], sym, ap, subst, arith}
 use Rattle.std.specs.Prelude.{None}
+use Rattle.casper_trail.specs.Modified.{is_modified}
 use Rattle.casper_cache.specs.Own as cache
 use Rattle.casper_hub.specs.HubView.{HubView}
-use Rattle.casper_hub.specs.Words.{live_value, stored_value, seen_value, ServerIsRight, FramesAreRight, CacheIsRight}
+use Rattle.casper_hub.specs.Words.{live_value, stored_value, seen_value, FramesAreRight, CacheIsRight}
 use Rattle.casper_hub.specs.Stages.{Leaves}
 use Rattle.casper_hub.specs.Sound.{IsWellFormed, IsPlain}
 use Rattle.casper_hub.proofs.Whole.{Whole, Owning}
 use Rattle.casper_hub.proofs.Relying.{same_held}
 use Rattle.casper_hub.proofs.Changing.{formed_changed, plain_changed}
-use Rattle.casper_hub.proofs.Opened.{Begins, begins_owned, framed_left, seen_without_calls, opened_sound, opened_frames, opened_words}
+use Rattle.casper_hub.proofs.Opened.{Begins, begins_owned, framed_left, seen_without_calls, opened_sound, opened_up, opened_frames, opened_words}
 
 -- what follows where a turn of a client that owns its cache opened, every page was given up, and the client is absent
 
@@ -36,12 +37,12 @@ module _ (hub : HubView) (own : cache.Own) (after : HubView) (own_after : cache.
 pub left_frames : (base : List (List ℕ)) (hub : HubView) (own : cache.Own) (after : HubView) (own_after : cache.Own) → Whole hub → Owning hub own
     → Leaves own.client hub own after own_after → FramesAreRight base hub → CacheIsRight base hub own → FramesAreRight base after
 left_frames base hub own after own_after sound owns leaves frames words =
-    subst (λ (h : HubView). ServerIsRight (live_value base h) (stored_value base h) h.pages) (sym leaves.hub_is)
-    (leaves.gives.words (live_value base opened) (stored_value base opened)
+    subst (FramesAreRight base) (sym leaves.hub_is)
+    (leaves.gives.words (is_modified opened.trail) (live_value base opened) (stored_value base opened)
     (opened_frames base own.client hub own opened leaves.opened_own begins leaves.opens frames words)
     (same_held (seen_value base opened leaves.opened_own) (live_value base opened) leaves.opened_own.held
     (λ page word held.
-    seen_without_calls base opened leaves.opened_own (opened_before_leaving hub own after own_after sound owns leaves).plain (ap (λ (o : cache.Own). o.pending) leaves.opens.own_is) page word)
+    seen_without_calls base opened leaves.opened_own (opened_up own.client hub own opened leaves.opened_own begins leaves.opens) (ap (λ (o : cache.Own). o.pending) leaves.opens.own_is) page word)
     (opened_words base own.client hub own opened leaves.opened_own begins leaves.opens words)))
   where
     opened : HubView

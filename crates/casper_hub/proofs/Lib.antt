@@ -5,7 +5,9 @@ pub mod Blocking
 pub mod Changing
 pub mod Deciding
 pub mod DepartedTurns
+pub mod Felling
 pub mod ForClient
+pub mod Forgotten
 pub mod Giving
 pub mod GrantedHeld
 pub mod GrantedRights
@@ -18,8 +20,11 @@ pub mod Installed
 pub mod Installing
 pub mod JoinedTurns
 pub mod KeptPages
+pub mod KeptUp
 pub mod Leaving
 pub mod Left
+pub mod LostKept
+pub mod LostTurns
 pub mod Meeting
 pub mod MissingStays
 pub mod NewHub
@@ -32,6 +37,8 @@ pub mod Recorded
 pub mod Refused
 pub mod Relying
 pub mod RightsHeld
+pub mod RolledBack
+pub mod RolledFrames
 pub mod ServedTurns
 pub mod Showing
 pub mod ShownAfter
@@ -39,6 +46,7 @@ pub mod ShownPlaces
 pub mod Standing
 pub mod StandsFor
 pub mod Supplied
+pub mod Told
 pub mod Touched
 pub mod Transport
 pub mod Whole

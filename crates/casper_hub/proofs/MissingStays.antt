@@ -24,7 +24,7 @@ use Rattle.casper_hub.specs.Given.{met, right_kept}
 use Rattle.casper_hub.specs.Deciding.{fell, is_given, stands_in_the_way}
 use Rattle.casper_hub.specs.Installing.{with_pages, all_raised, all_fronted}
 use Rattle.casper_hub.specs.Stages.{CanGrant, Grants}
-use Rattle.casper_hub.proofs.Whole.{Whole, Owning, nobody_fell}
+use Rattle.casper_hub.proofs.Whole.{Whole, Owning}
 use Rattle.casper_hub.proofs.Deciding.{crew_none}
 use Rattle.casper_hub.proofs.Installed.{fails_in}
 use Rattle.casper_hub.proofs.OpenedTurns.{kept_held, kept_same}
@@ -113,7 +113,7 @@ pub granted_held_is : (hub : HubView) (own : cache.Own) (wants missing : List Wa
 granted_held_is hub own wants missing after own_after sound owns are can grants =
     sym (granted_held hub.pages (right_in hub own.client) (right_kept hub.pages hub.clients own.client)
     (is_asked_for is_to_write hub.clients own.client) (is_asked_for any_right hub.clients own.client) own.capacity own.held wants missing owns.sound.distinct are
-    owns.sound.least (owns.rights (nobody_fell hub own.client sound)) (λ page. refl) can.missing_is (missing_stays hub own wants missing can))
+    owns.sound.least owns.rights (λ page. refl) can.missing_is (missing_stays hub own wants missing can))
     ∙ sym (ap (λ (o : cache.Own). wants_of o.held) grants.own_is
     ∙ ap (λ held. wants_of (take own.capacity (all_fronted (all_raised held missing) wants)))
     (grants.opens.gives.held_is

@@ -65,7 +65,7 @@ module _ (count limit : ℕ) (trail : List Item) (places : List (Option ClientVi
   }
 
   pub plain_new : IsPlain (hub_of trail limit places pages)
-  plain_new = record { quiet = refl; up = λ who client is. absurd (true≢false (ap is_some (sym is ∙ nobody_live places are who))) }
+  plain_new = record { quiet = refl; unkept = λ who client is. absurd (true≢false (ap is_some (sym is ∙ nobody_live places are who))) }
 
 -- a frame that the server has stays as another is supplied
 frame_stays : (frames : List (Option (List ℕ))) (page : ℕ) (frame : List ℕ) (other : ℕ) → IsSome (get_or frames other None)

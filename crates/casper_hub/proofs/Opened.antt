@@ -1,8 +1,8 @@
-use Rattle.std.proofs.Common.{◌≡◌, ◌≢◌, ◌<◌, ◌≤◌, ℕ, suc, ◌∙◌, List, [], ◌∷◌, ◌++◌, true, false, ◌&&◌, ◌==◌, fold, length, get_or-set_same, filter_map, refl, sym, ap, subst, true≢false, Contains, arith}
+use Rattle.std.proofs.Common.{◌≡◌, ◌≢◌, ◌<◌, ◌≤◌, ℕ, suc, ◌∙◌, List, [], ◌∷◌, ◌++◌, Bool, true, false, ◌&&◌, ◌||◌, ◌==◌, fold, length, get_or-set_same, filter_map, refl, sym, ap, subst, true≢false, Contains, arith}
 use Rattle.std.specs.Prelude.{Option, None, Some, IsSome, is_some, option_map, option_and_then, MatchOption, min}
-use Rattle.std.specs.List.{cons_option}
+use Rattle.std.specs.List.{cons_option, list_any}
 use Rattle.std.proofs.Math.Nat.{min-le_right}
-use Rattle.std.proofs.lemmas.Bool.{false_from_ne_true, and_parts, eqb-true}
+use Rattle.std.proofs.lemmas.Bool.{false_from_ne_true, and_parts, or_parts, eqb-true}
 use Rattle.casper_words.specs.declared.call.Op.{Op}
 use Rattle.casper_words.specs.declared.call.Op.TheVariants as op
 use Rattle.casper_words.specs.declared.call.Call.{Call}
@@ -11,6 +11,7 @@ use Rattle.casper_words.specs.declared.page.Right.TheVariants as may
 use Rattle.casper_words.specs.declared.page.Want.{Want}
 use Rattle.casper_trail.specs.declared.entry.Entry.{Entry}
 use Rattle.casper_trail.specs.Value.{value_of, value_after, writes_page, is_write}
+use Rattle.casper_trail.specs.Modified.{is_modified}
 use Rattle.casper_trail.specs.Parts.{as_items, live_entries}
 use Rattle.casper_trail.specs.Calls.{entries_by}
 use Rattle.casper_trail.proofs.Parts.{live_of_more_entries}
@@ -22,29 +23,31 @@ use Rattle.casper_cache.specs.Own as cache
 use Rattle.casper_cache.proofs.Entries.{entry_of-page}
 use Rattle.casper_model.specs.LegalHistory.{right_for}
 use Rattle.casper_model.proofs.Entries.{contains_entry}
+use Rattle.casper_turns.proofs.Lists.{none_passes}
 use Rattle.casper_hub.specs.HubView.{HubView, ClientView, PagesView, client_in, cap_in, cap_of, asks_of, fallen_in, is_live, free_in, with_cap, frame_in, items_behind}
-use Rattle.casper_hub.specs.Words.{live_value, stored_value, seen_value, AreWords, ServerIsRight, HeldIsRight, FramesAreRight, CacheIsRight}
+use Rattle.casper_hub.specs.Words.{live_value, stored_value, seen_value, AreWords, HasNoOpenWriter, ServerIsRight, HeldIsRight, FramesAreRight, CacheIsRight}
 use Rattle.casper_hub.specs.Shows.{permits}
 use Rattle.casper_hub.specs.Given.{Covers, GivesUp, Falls, left_of, kept_as, topped}
 use Rattle.casper_hub.specs.Stages.{Opens}
 use Rattle.casper_hub.specs.Sound.{IsWellFormed, IsPlain}
-use Rattle.casper_hub.proofs.Whole.{Whole, Owning, nobody_fell, fallen_of_place}
+use Rattle.casper_hub.proofs.Whole.{Whole, Owning}
 use Rattle.casper_hub.proofs.ServedTurns.{opened_whole}
 use Rattle.casper_hub.proofs.Showing.{allows_right}
 use Rattle.casper_hub.proofs.Left.{entry_of-kept, distinct-kept}
 use Rattle.casper_hub.proofs.Giving.{writes_before, held_right_kept}
 use Rattle.casper_hub.proofs.Relying.{seen_plain, same_held, same_words}
-use Rattle.casper_hub.proofs.Changing.{IsPlainPlace, live_elsewhere, stored_stays, formed_changed, plain_changed}
+use Rattle.casper_hub.proofs.Changing.{IsPlainPlace, live_elsewhere, stored_stays, modified_more, formed_changed, plain_changed}
 
 -- each of these calls that writes is on a page that its client may write
 abbrev pub WritesAreHeld : ℕ → PagesView → List Call → Type 0
 WritesAreHeld who pages calls = (call : Call) → Contains calls call → is_write call.op ≡ true → right_at pages.rights who call.page ≡ Some may.Write
 
--- what a turn finds as it opens: a sound hub, where the client is live with the cap of its cache, and a cache that covers its rights and
+-- what a turn finds as it opens: a sound hub, where the client is live, has not fallen and has the cap of its cache, and a cache that covers its rights and
 -- has room for its pending calls, whose writes have their rights
 pub record Begins (who : ℕ) (hub : HubView) (own : cache.Own) : Type 0 where
   pub sound : Whole hub
   pub live : is_live hub who ≡ true
+  pub up : fallen_in hub own.client ≡ None
   pub cap : cap_in hub who ≡ own.cap
   pub client : own.client ≡ who
   pub covers : Covers who hub.pages own.held
@@ -64,17 +67,16 @@ covers_owned hub own sound owns = record {
   holders = sound.holders;
   frames_count = sound.frames;
   distinct = owns.sound.distinct;
-  held_so = λ page right is. sym (owns.rights (nobody_fell hub own.client sound) page) ∙ is;
+  held_so = λ page right is. sym (owns.rights page) ∙ is;
   framed = λ page is. sound.framed own.client page is;
 }
 
 -- and its pending writes have their rights
 pub writes_owned : (hub : HubView) (own : cache.Own) → Whole hub → Owning hub own → WritesAreHeld own.client hub.pages own.pending
 writes_owned hub own sound owns call inside writes =
-    let up : fallen_in hub own.client ≡ None = nobody_fell hub own.client sound in
-    owns.rights up call.page
+    owns.rights call.page
     ∙ writes_permitted (right_of call.page own.held)
-    (ap (permits (right_of call.page own.held)) (sym (needs call.op writes)) ∙ sym (allows_right own.held owns.sound.distinct call.page (right_for call.op)) ∙ owns.calls up call inside)
+    (ap (permits (right_of call.page own.held)) (sym (needs call.op writes)) ∙ sym (allows_right own.held owns.sound.distinct call.page (right_for call.op)) ∙ owns.calls call inside)
   where
     needs : (act : Op) → is_write act ≡ true → right_for act ≡ may.Write
     needs op.Read e = absurd (true≢false (sym e))
@@ -85,6 +87,7 @@ pub begins_owned : (hub : HubView) (own : cache.Own) → Whole hub → Owning hu
 begins_owned hub own sound owns = record {
   sound = sound;
   live = owns.live;
+  up = owns.up;
   cap = owns.cap;
   client = refl;
   covers = covers_owned hub own sound owns;
@@ -109,7 +112,12 @@ pub plain_with_cap : (cap : ℕ) (place : Option ClientView) → IsPlainPlace pl
 plain_with_cap cap None plain client e = cc
 plain_with_cap cap (Some shown) plain client e =
     let same : record shown { cap = cap } ≡ client = cc in
-    subst (λ (c : ClientView). (c.kept ≡ None) × (c.fallen ≡ None)) same (plain shown refl)
+    subst (λ (c : ClientView). c.kept ≡ None) same (plain shown refl)
+
+pub fallen_with_cap : (cap : ℕ) (place : Option ClientView)
+    → option_and_then (λ (client : ClientView). client.fallen) (with_cap cap place) ≡ option_and_then (λ (client : ClientView). client.fallen) place
+fallen_with_cap cap None = refl
+fallen_with_cap cap (Some client) = refl
 
 -- what a client keeps for writing is framed
 pub framed_left : (who : ℕ) (hub : HubView) (held held_after : List Held) (after : PagesView) → Whole hub → GivesUp who hub.pages held after held_after
@@ -117,7 +125,7 @@ pub framed_left : (who : ℕ) (hub : HubView) (held held_after : List Held) (aft
 framed_left who hub held held_after after sound gives page is =
     gives.framed page (sound.framed who page (writes_before (right_at hub.pages.rights who page) (right_at after.rights who page) (gives.falls page) is))
 
--- once a turn has opened the parts of the hub fit together, and no client has fallen
+-- once a turn has opened the parts of the hub fit together, no outcome is kept, and its client has not fallen
 module _ (who : ℕ) (hub : HubView) (own : cache.Own) (after : HubView) (own_after : cache.Own) (begins : Begins who hub own) (opens : Opens who hub own after own_after) where
   abbrev opened_place : Option ClientView
   opened_place = with_cap (topped own (free_in hub)) (client_in hub who)
@@ -134,7 +142,7 @@ module _ (who : ℕ) (hub : HubView) (own : cache.Own) (after : HubView) (own_af
   opened_plain =
       subst IsPlain (sym opens.hub_is)
       (plain_changed hub (hub.trail ++ as_items (entries_by who own.pending)) who opened_place after.pages begins.sound.plain begins.sound.places begins.covers.client
-      (plain_with_cap (topped own (free_in hub)) (client_in hub who) (begins.sound.up who)))
+      (plain_with_cap (topped own (free_in hub)) (client_in hub who) (begins.sound.unkept who)))
 
 -- so the hub is sound
 pub opened_sound : (hub : HubView) (own : cache.Own) (held : List Held) (after : HubView) (own_after : cache.Own) → Begins own.client hub (record own { held = held })
@@ -158,11 +166,12 @@ unwritten who pages calls page held never entry inside =
 pub no_writer_no_right : (pages : PagesView) (page who : ℕ) → writer_at pages.rights page ≡ None → right_at pages.rights who page ≢ Some may.Write
 no_writer_no_right pages page who none writes = let found = (writer_holds_to_write pages.rights page who).1 writes in cc
 
--- frames that are right for some values are right for others that are the same where nobody writes
-pub same_server : (value stored value_too stored_too : ℕ → ℕ → ℕ) (pages : PagesView)
-    → ((page word : ℕ) → writer_at pages.rights page ≡ None → value page word ≡ value_too page word) → ((page word : ℕ) → stored page word ≡ stored_too page word)
-    → ServerIsRight value stored pages → ServerIsRight value_too stored_too pages
-same_server value stored value_too stored_too pages same same_stored right page none = of_frame (frame_in pages page) (right page none)
+-- frames that are right for some values are right for others that are the same where nobody has an open write
+pub same_server : (modified modified_too : ℕ → Bool) (value stored value_too stored_too : ℕ → ℕ → ℕ) (pages : PagesView)
+    → ((page : ℕ) → HasNoOpenWriter modified_too pages page → HasNoOpenWriter modified pages page)
+    → ((page word : ℕ) → HasNoOpenWriter modified_too pages page → value page word ≡ value_too page word) → ((page word : ℕ) → stored page word ≡ stored_too page word)
+    → ServerIsRight modified value stored pages → ServerIsRight modified_too value_too stored_too pages
+same_server modified modified_too value stored value_too stored_too pages free same same_stored right page none = of_frame (frame_in pages page) (right page (free page none))
   where
     of_frame : (o : Option (List ℕ)) → MatchOption o ((word : ℕ) → word < 512 → value page word ≡ stored page word) (λ words. AreWords value page words)
         → MatchOption o ((word : ℕ) → word < 512 → value_too page word ≡ stored_too page word) (λ words. AreWords value_too page words)
@@ -176,36 +185,14 @@ opened_seen base who hub own after own_after begins opens page word =
     ap (λ (h : HubView). live_value base h page word) opens.hub_is
     ∙ ap (λ (entries : List Entry). value_of base entries page word) (live_of_more_entries hub.trail (entries_by who own.pending))
     ∙ ap (λ (w : ℕ). value_of base (live_entries hub.trail ++ entries_by w own.pending) page word) (sym begins.client)
-    ∙ sym (ap (λ fell. value_of base (live_entries (items_behind hub.trail fell) ++ entries_by own.client own.pending) page word) (nobody_fell hub own.client begins.sound))
+    ∙ sym (ap (λ fell. value_of base (live_entries (items_behind hub.trail fell) ++ entries_by own.client own.pending) page word) begins.up)
 
--- without pending calls a client sees the live entries
-pub seen_without_calls : (base : List (List ℕ)) (hub : HubView) (own : cache.Own) → IsPlain hub → own.pending ≡ []
+-- without pending calls a client that has not fallen sees the live entries
+pub seen_without_calls : (base : List (List ℕ)) (hub : HubView) (own : cache.Own) → fallen_in hub own.client ≡ None → own.pending ≡ []
     → (page word : ℕ) → seen_value base hub own page word ≡ live_value base hub page word
-seen_without_calls base hub own plain none page word =
-    seen_plain base hub own page word (fallen_of_place (client_in hub own.client) (λ client is. (plain.up own.client client is).1))
+seen_without_calls base hub own up none page word =
+    seen_plain base hub own page word up
     ∙ ap (λ (calls : List Call). fold (value_after page word) (live_value base hub page word) (entries_by own.client calls)) none
-
-pub opened_frames : (base : List (List ℕ)) (who : ℕ) (hub : HubView) (own : cache.Own) (after : HubView) (own_after : cache.Own) → Begins who hub own → Opens who hub own after own_after
-    → FramesAreRight base hub → CacheIsRight base hub own → FramesAreRight base after
-opened_frames base who hub own after own_after begins opens frames words =
-    opens.gives.words (live_value base after) (stored_value base after)
-    (same_server (live_value base hub) (stored_value base hub) (live_value base after) (stored_value base after) hub.pages
-    (λ page word none. sym (ap (λ (h : HubView). live_value base h page word) opens.hub_is
-    ∙ live_elsewhere base hub.trail (entries_by who own.pending) page word (unwritten who hub.pages own.pending page begins.writes (no_writer_no_right hub.pages page who none))))
-    (λ page word. sym (ap (λ (h : HubView). stored_value base h page word) opens.hub_is ∙ stored_stays base hub.trail (entries_by who own.pending) page word))
-    frames)
-    (same_held (seen_value base hub own) (live_value base after) own.held (λ page word held. sym (opened_seen base who hub own after own_after begins opens page word)) words)
-
-pub opened_words : (base : List (List ℕ)) (who : ℕ) (hub : HubView) (own : cache.Own) (after : HubView) (own_after : cache.Own) → Begins who hub own → Opens who hub own after own_after
-    → CacheIsRight base hub own → CacheIsRight base after own_after
-opened_words base who hub own after own_after begins opens words =
-    subst (λ (held : List Held). HeldIsRight (seen_value base after own_after) held) (sym opens.gives.held_is)
-    (held_right_kept (seen_value base after own_after) (right_at hub.pages.rights who) (right_at after.pages.rights who) own.held
-    (same_held (seen_value base hub own) (seen_value base after own_after) own.held
-    (λ page word held.
-    sym (seen_without_calls base after own_after (opened_plain who hub own after own_after begins opens) (ap (λ (o : cache.Own). o.pending) opens.own_is) page word
-    ∙ opened_seen base who hub own after own_after begins opens page word))
-    words))
 
 -- what the server knows of the client once its turn has opened
 pub opened_client : (who : ℕ) (hub : HubView) (own : cache.Own) (after : HubView) (own_after : cache.Own) → Begins who hub own → Opens who hub own after own_after
@@ -217,7 +204,51 @@ opened_client who hub own after own_after begins opens =
     ap (λ (h : HubView). client_in h who) opens.hub_is
     ∙ get_or-set_same hub.clients who (with_cap (topped own (free_in hub)) (client_in hub who)) None below
 
--- and that it is live with the cap of its cache
+-- and that it has not fallen
+pub opened_up : (who : ℕ) (hub : HubView) (own : cache.Own) (after : HubView) (own_after : cache.Own) → Begins who hub own → Opens who hub own after own_after
+    → fallen_in after own_after.client ≡ None
+opened_up who hub own after own_after begins opens =
+    ap (fallen_in after) (ap (λ (o : cache.Own). o.client) opens.own_is ∙ begins.client)
+    ∙ ap (option_and_then (λ (client : ClientView). client.fallen)) (opened_client who hub own after own_after begins opens)
+    ∙ fallen_with_cap (topped own (free_in hub)) (client_in hub who) ∙ ap (fallen_in hub) (sym begins.client) ∙ begins.up
+
+pub opened_frames : (base : List (List ℕ)) (who : ℕ) (hub : HubView) (own : cache.Own) (after : HubView) (own_after : cache.Own) → Begins who hub own → Opens who hub own after own_after
+    → FramesAreRight base hub → CacheIsRight base hub own → FramesAreRight base after
+opened_frames base who hub own after own_after begins opens frames words =
+    opens.gives.words (is_modified after.trail) (live_value base after) (stored_value base after)
+    (same_server (is_modified hub.trail) (is_modified after.trail) (live_value base hub) (stored_value base hub) (live_value base after) (stored_value base after) hub.pages
+    (λ page none writer is. (or_parts (is_modified hub.trail page) (list_any (writes_page page) (entries_by who own.pending)) (recorded page ∙ none writer is)).0)
+    (λ page word none. sym (ap (λ (h : HubView). live_value base h page word) opens.hub_is
+    ∙ live_elsewhere base hub.trail (entries_by who own.pending) page word (apart page none)))
+    (λ page word. sym (ap (λ (h : HubView). stored_value base h page word) opens.hub_is ∙ stored_stays base hub.trail (entries_by who own.pending) page word))
+    frames)
+    (same_held (seen_value base hub own) (live_value base after) own.held (λ page word held. sym (opened_seen base who hub own after own_after begins opens page word)) words)
+  where
+    recorded : (page : ℕ) → (is_modified hub.trail page || list_any (writes_page page) (entries_by who own.pending)) ≡ is_modified after.trail page
+    recorded page = sym (ap (λ (h : HubView). is_modified h.trail page) opens.hub_is ∙ modified_more hub.trail (entries_by who own.pending) page)
+
+    -- a page that somebody holds for writing is not written where it is not modified then, and nobody writes any other
+    apart : (page : ℕ) → HasNoOpenWriter (is_modified after.trail) hub.pages page → (entry : Entry) → Contains (entries_by who own.pending) entry → writes_page page entry ≡ false
+    apart page none =
+        (elim (writer_at hub.pages.rights page) as (λ o. writer_at hub.pages.rights page ≡ o → (entry : Entry) → Contains (entries_by who own.pending) entry → writes_page page entry ≡ false) [
+          | None ↦ λ nobody. unwritten who hub.pages own.pending page begins.writes (no_writer_no_right hub.pages page who nobody)
+          | Some writer ↦ λ is entry inside.
+              none_passes (writes_page page) (entries_by who own.pending) entry
+              (or_parts (is_modified hub.trail page) (list_any (writes_page page) (entries_by who own.pending)) (recorded page ∙ none writer is)).1 inside
+        ]) refl
+
+pub opened_words : (base : List (List ℕ)) (who : ℕ) (hub : HubView) (own : cache.Own) (after : HubView) (own_after : cache.Own) → Begins who hub own → Opens who hub own after own_after
+    → CacheIsRight base hub own → CacheIsRight base after own_after
+opened_words base who hub own after own_after begins opens words =
+    subst (λ (held : List Held). HeldIsRight (seen_value base after own_after) held) (sym opens.gives.held_is)
+    (held_right_kept (seen_value base after own_after) (right_at hub.pages.rights who) (right_at after.pages.rights who) own.held
+    (same_held (seen_value base hub own) (seen_value base after own_after) own.held
+    (λ page word held.
+    sym (seen_without_calls base after own_after (opened_up who hub own after own_after begins opens) (ap (λ (o : cache.Own). o.pending) opens.own_is) page word
+    ∙ opened_seen base who hub own after own_after begins opens page word))
+    words))
+
+-- and it is live with the cap of its cache
 pub opened_live : (who : ℕ) (hub : HubView) (own : cache.Own) (after : HubView) (own_after : cache.Own) → Begins who hub own → Opens who hub own after own_after → is_live after who ≡ true
 opened_live who hub own after own_after begins opens =
     ap is_some (opened_client who hub own after own_after begins opens) ∙ live_with_cap (topped own (free_in hub)) (client_in hub who) ∙ begins.live
@@ -284,5 +315,5 @@ module _ (hub : HubView) (own : cache.Own) (after : HubView) (own_after : cache.
   -- and its rights are those of its client
   pub opened_rights : Whole hub → (page : ℕ) → right_at after.pages.rights own.client page ≡ right_of page own_after.held
   opened_rights sound page =
-      rights_left (right_at hub.pages.rights own.client) (right_at after.pages.rights own.client) own.held (owns.rights (nobody_fell hub own.client sound)) opens.gives.falls page
+      rights_left (right_at hub.pages.rights own.client) (right_at after.pages.rights own.client) own.held owns.rights opens.gives.falls page
       ∙ sym (ap (right_of page) opens.gives.held_is)

@@ -22,7 +22,7 @@ use Rattle.casper_hub.specs.Asks.{is_asked_for}
 use Rattle.casper_hub.specs.Shows.{Shows}
 use Rattle.casper_hub.specs.Owned.{wants_of, own_of}
 use Rattle.casper_hub.specs.Given.{met, right_kept, left_of, kept_as, topped}
-use Rattle.casper_hub.proofs.Whole.{Whole, Owning, nobody_fell, fallen_shown, pending_within}
+use Rattle.casper_hub.proofs.Whole.{Whole, Owning, fallen_shown, pending_within}
 use Rattle.casper_hub.proofs.Showing.{asks_shown, free_shown, caps_shown}
 use Rattle.casper_hub.proofs.Standing.{stands, opened_plain, free_recorded}
 use Rattle.casper_hub.proofs.KeptPages.{asked_same, HaveRights, have_rights, keeps_wants}
@@ -64,14 +64,14 @@ pub right_kept_held : (hub : HubView) (own : cache.Own) → Whole hub → Owning
 right_kept_held hub own sound owns page =
     right_among_kept (right_in hub own.client) (right_kept hub.pages hub.clients own.client)
     (is_asked_for is_to_write hub.clients own.client) (is_asked_for any_right hub.clients own.client) page own.held
-    (owns.rights (nobody_fell hub own.client sound) page) refl
+    (owns.rights page) refl
 
 pub distinct_kept_held : (hub : HubView) (own : cache.Own) → Owning hub own → ArePagesDistinct (kept_held hub own)
 distinct_kept_held hub own owns = distinct-kept (right_in hub own.client) (right_kept hub.pages hub.clients own.client) own.held owns.sound.distinct
 
 pub have_rights_held : (hub : HubView) (own : cache.Own) → Whole hub → Owning hub own → HaveRights (right_in hub own.client) own.held
 have_rights_held hub own sound owns =
-    have_rights (right_in hub own.client) own.held owns.sound.distinct (λ page right is. owns.rights (nobody_fell hub own.client sound) page ∙ is)
+    have_rights (right_in hub own.client) own.held owns.sound.distinct (λ page right is. owns.rights page ∙ is)
 
 -- the asks of the others, once the machine's turn has begun
 pub asks_begun : (shared : Shared) (own : Own) (other : ℕ) → asks_at (begun shared own).shared other ≡ asks_at shared other
@@ -120,7 +120,7 @@ own_opened shared hub own shows sound owns =
     cap : (begun shared (own_of own)).own.cap ≡ topped own (free_in hub)
     cap =
         ap (λ free. min most_cap (own.cap - length own.pending + free))
-        (free_recorded shared (own_of own) (stands shared hub own shows sound owns) (fallen_shown shared hub shows sound own.client) (pending_within own owns.sound)
+        (free_recorded shared (own_of own) (stands shared hub own shows sound owns) (fallen_shown shared hub own shows owns) (pending_within own owns.sound)
         (subst (λ limit. entry_count shared.trail + all_caps shared ≤ limit) (sym shows.limit)
         (omega (arith, ap entry_count shows.trail, caps_shown shared hub shows sound.places, sound.within)))
         ∙ free_shown shared hub shows sound.places)

@@ -84,20 +84,15 @@ granted_write page right (want ∷ wants) is =
 pub granted_writer : (who : ℕ) (rights now : List Holders) (page : ℕ) (wants : List Want) → AreAllClients rights
     → right_at now who page ≡ all_granted page (right_at rights who page) wants
     → ((client : ℕ) → IsClient client → client ≢ who → right_at now client page ≡ right_at rights client page)
-    → writer_at now page ≡ None → writer_at rights page ≡ None
-granted_writer who rights now page wants all here others none = of_writer (writer_at rights page) refl
+    → (writer : ℕ) → writer_at rights page ≡ Some writer → writer_at now page ≡ Some writer
+granted_writer who rights now page wants all here others writer is =
+    (writer_holds_to_write now page writer).1
+    (⊎_elim
+    (λ (same : writer ≡ who).
+    ap (λ (w : ℕ). right_at now w page) same ∙ here
+    ∙ granted_write page (right_at rights who page) wants (sym (ap (λ (w : ℕ). right_at rights w page) same) ∙ writes))
+    (λ (differ : writer ≡ who → ⊥). others writer (writer_is_client rights page writer all is) differ ∙ writes)
+    (cases_eq writer who))
   where
-    of_writer : (o : Option ℕ) → writer_at rights page ≡ o → o ≡ None
-    of_writer None is = refl
-    of_writer (Some writer) is =
-        let client : IsClient writer = writer_is_client rights page writer all is in
-        let writes : right_at rights writer page ≡ Some may.Write = (writer_holds_to_write rights page writer).0 is in
-        let still : right_at now writer page ≡ Some may.Write =
-        ⊎_elim
-        (λ (same : writer ≡ who).
-        ap (λ (w : ℕ). right_at now w page) same ∙ here
-        ∙ granted_write page (right_at rights who page) wants (sym (ap (λ (w : ℕ). right_at rights w page) same) ∙ writes))
-        (λ (differ : writer ≡ who → ⊥). others writer client differ ∙ writes)
-        (cases_eq writer who) in
-        let found : writer_at now page ≡ Some writer = (writer_holds_to_write now page writer).1 still in
-        cc
+    writes : right_at rights writer page ≡ Some may.Write
+    writes = (writer_holds_to_write rights page writer).0 is

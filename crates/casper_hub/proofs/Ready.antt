@@ -16,7 +16,7 @@ use Rattle.casper_cache.specs.Holding.{right_of, entry_of, raised}
 use Rattle.casper_cache.specs.Own as cache
 use Rattle.casper_cache.proofs.Entries.{entry_of-page}
 use Rattle.casper_model.specs.Opening.{any_right}
-use Rattle.casper_hub.specs.HubView.{HubView, PagesView, ClientView, frame_in}
+use Rattle.casper_hub.specs.HubView.{HubView, PagesView, ClientView, fallen_in, frame_in}
 use Rattle.casper_trail.specs.declared.item.Item.{Item}
 use Rattle.casper_hub.specs.HubFields.{hub_of}
 use Rattle.casper_hub.specs.Shows.{permits}
@@ -28,7 +28,7 @@ use Rattle.casper_hub.specs.Installing.{with_page, with_pages, raised_for, all_r
 use Rattle.casper_hub.specs.Stages.{Opens, CanGrant}
 use Rattle.casper_hub.specs.Owned.{Owns}
 use Rattle.casper_hub.specs.Sound.{IsSound, IsPlain}
-use Rattle.casper_hub.proofs.Whole.{Whole, Owning, whole, owning, nobody_fell}
+use Rattle.casper_hub.proofs.Whole.{Whole, Owning, whole, owning}
 use Rattle.casper_hub.proofs.Giving.{covers_after}
 use Rattle.casper_hub.proofs.Left.{entry_of-kept}
 use Rattle.casper_hub.proofs.Installing.{length_with_page, with_page_held, with_page_same, right_of-raised, conflicts_kept, right_there}
@@ -191,7 +191,7 @@ rights_given hub own wants missing opened opened_own granted ready gives page =
     ∙ sym (ap (λ (l : List Held). right_of page (all_fronted (all_raised l missing) wants)) ready.opens.gives.held_is
     ∙ granted_right_of hub.pages (right_at hub.pages.rights own.client) (right_at opened.pages.rights own.client)
     (is_asked_for is_to_write hub.clients own.client) (is_asked_for any_right hub.clients own.client) own.held wants missing page
-    (ready.owns.rights (nobody_fell hub own.client ready.sound) page) (ready.opens.kept page) (stays_opened hub own wants missing opened opened_own ready))
+    (ready.owns.rights page) (ready.opens.kept page) (stays_opened hub own wants missing opened opened_own ready))
 
 -- and covers them
 pub covers_given : (hub : HubView) (own : cache.Own) (wants missing : List Want) (opened : HubView) (opened_own : cache.Own) (granted : PagesView)
@@ -217,12 +217,13 @@ covers_given hub own wants missing opened opened_own granted ready gives = recor
 
 -- a turn is ready as the server has installed and opened it
 pub ready_for : (who limit : ℕ) (view : HubView) (own installed opened_own : cache.Own) (wants missing listed : List Want) (items trail : List Item) (places : List (Option ClientView)) (pages : PagesView) (opened : HubView)
-    → hub_of trail limit places pages ≡ view → own.client ≡ who → IsSound (hub_of trail limit places pages) → IsPlain (hub_of trail limit places pages) → Owns view own → CanGrant who view own wants missing
+    → hub_of trail limit places pages ≡ view → own.client ≡ who → IsSound (hub_of trail limit places pages) → IsPlain (hub_of trail limit places pages) → Owns view own → fallen_in view who ≡ None → CanGrant who view own wants missing
     → listed ≡ missing → items ≡ trail → installed ≡ record own { held = with_pages pages own.held listed }
     → Opens who (hub_of items limit places pages) installed opened opened_own → Ready (hub_of trail limit places pages) own wants listed opened opened_own
-ready_for who limit view own installed opened_own wants missing listed items trail places pages opened view_is is sound plain owns can same items_are installed_is opens = record {
+ready_for who limit view own installed opened_own wants missing listed items trail places pages opened view_is is sound plain owns up can same items_are installed_is opens = record {
   sound = whole (hub_of trail limit places pages) sound plain;
-  owns = owning (hub_of trail limit places pages) own sound (subst (λ (h : HubView). Owns h own) (sym view_is) owns);
+  owns = owning (hub_of trail limit places pages) own sound (subst (λ (h : HubView). Owns h own) (sym view_is) owns)
+      (ap (fallen_in (hub_of trail limit places pages)) is ∙ subst (λ (h : HubView). fallen_in h who ≡ None) (sym view_is) up);
   can = subst (λ (l : List Want). CanGrant own.client (hub_of trail limit places pages) own wants l) (sym same)
       (subst (λ (w : ℕ). CanGrant w (hub_of trail limit places pages) own wants missing) (sym is) (subst (λ (h : HubView). CanGrant who h own wants missing) (sym view_is) can));
   opens = subst (λ (w : ℕ). Opens w (hub_of trail limit places pages) (record own { held = with_pages pages own.held listed }) opened opened_own) (sym is)

@@ -1,15 +1,15 @@
 use Rattle.std.proofs.Common.{◌≡◌, ◌<◌, ℕ, ◌∙◌, List, [], true, refl, sym, ap, subst, Contains, arith}
-use Rattle.std.specs.Prelude.{Option, None, Some, is_some}
+use Rattle.std.specs.Prelude.{Option, None, Some, is_some, option_and_then}
 use Rattle.casper_words.specs.declared.page.Want.{Want}
 use Rattle.casper_cache.specs.Own as cache
-use Rattle.casper_hub.specs.HubView.{HubView, ClientView, client_in, cap_of, asks_of, with_asks, page_count, is_live}
+use Rattle.casper_hub.specs.HubView.{HubView, ClientView, client_in, cap_of, asks_of, fallen_in, with_asks, page_count, is_live}
 use Rattle.casper_hub.specs.Words.{live_value, seen_value, FramesAreRight, CacheIsRight}
 use Rattle.casper_hub.specs.Stages.{Refuses}
 use Rattle.casper_hub.specs.Sound.{IsWellFormed, IsPlain}
 use Rattle.casper_hub.proofs.Whole.{Whole, Owning}
 use Rattle.casper_hub.proofs.Relying.{same_held}
-use Rattle.casper_hub.proofs.Changing.{IsPlainPlace, changed_here, formed_changed, plain_changed}
-use Rattle.casper_hub.proofs.Opened.{Begins, begins_owned, seen_without_calls, opened_plain, opened_sound, opened_live, opened_frames, opened_words}
+use Rattle.casper_hub.proofs.Changing.{IsPlainPlace, changed, changed_here, formed_changed, plain_changed}
+use Rattle.casper_hub.proofs.Opened.{Begins, begins_owned, seen_without_calls, opened_sound, opened_live, opened_up, opened_frames, opened_words}
 
 -- a client with other asks
 pub live_with_asks : (asks : List Want) (place : Option ClientView) → is_some (with_asks asks place) ≡ is_some place
@@ -24,7 +24,12 @@ pub plain_with_asks : (asks : List Want) (place : Option ClientView) → IsPlain
 plain_with_asks asks None plain client e = cc
 plain_with_asks asks (Some shown) plain client e =
     let same : record shown { asks = asks } ≡ client = cc in
-    subst (λ (c : ClientView). (c.kept ≡ None) × (c.fallen ≡ None)) same (plain shown refl)
+    subst (λ (c : ClientView). c.kept ≡ None) same (plain shown refl)
+
+pub fallen_with_asks : (asks : List Want) (place : Option ClientView)
+    → option_and_then (λ (client : ClientView). client.fallen) (with_asks asks place) ≡ option_and_then (λ (client : ClientView). client.fallen) place
+fallen_with_asks asks None = refl
+fallen_with_asks asks (Some client) = refl
 
 pub asks_in_range : (asks : List Want) (place : Option ClientView) (count : ℕ) → ((ask : Want) → Contains asks ask → ask.page < count)
     → (ask : Want) → Contains (asks_of (with_asks asks place)) ask → ask.page < count
@@ -55,9 +60,22 @@ module _ (asks : List Want) (hub : HubView) (own : cache.Own) (after : HubView) 
   refused_plain =
       subst IsPlain (sym refuses.hub_is)
       (plain_changed refuses.opened refuses.opened.trail own.client asking_place refuses.opened.pages refused_opened.plain refused_opened.places owns.client
-      (plain_with_asks asks (client_in refuses.opened own.client) (refused_opened.up own.client)))
+      (plain_with_asks asks (client_in refuses.opened own.client) (refused_opened.unkept own.client)))
 
-  -- and the client stays live
+  -- its client has not fallen
+  pub refused_up : fallen_in after own_after.client ≡ None
+  refused_up =
+      ap (λ (h : HubView). fallen_in h own_after.client) refuses.hub_is
+      ∙ ap (λ (w : ℕ). fallen_in (changed refuses.opened refuses.opened.trail own.client asking_place refuses.opened.pages) w) same_client
+      ∙ ap (option_and_then (λ (client : ClientView). client.fallen))
+      (changed_here refuses.opened refuses.opened.trail own.client asking_place refuses.opened.pages refused_opened.places owns.client)
+      ∙ fallen_with_asks asks (client_in refuses.opened own.client)
+      ∙ ap (fallen_in refuses.opened) (sym same_client) ∙ opened_up own.client hub own refuses.opened own_after (begins_owned hub own sound owns) refuses.opens
+    where
+      same_client : own_after.client ≡ own.client
+      same_client = ap (λ (o : cache.Own). o.client) refuses.opens.own_is
+
+  -- and it stays live
   pub refused_live : is_live after own_after.client ≡ true
   refused_live =
       ap (is_live after) (ap (λ (o : cache.Own). o.client) refuses.opens.own_is)
@@ -79,8 +97,8 @@ pub refused_words : (base : List (List ℕ)) (asks : List Want) (hub : HubView) 
 refused_words base asks hub own after own_after sound owns refuses words =
     same_held (seen_value base refuses.opened own_after) (seen_value base after own_after) own_after.held
     (λ page word held.
-    seen_without_calls base refuses.opened own_after (opened_plain own.client hub own refuses.opened own_after begins refuses.opens) none page word
-    ∙ sym (seen_without_calls base after own_after (refused_plain asks hub own after own_after sound owns refuses) none page word
+    seen_without_calls base refuses.opened own_after (opened_up own.client hub own refuses.opened own_after begins refuses.opens) none page word
+    ∙ sym (seen_without_calls base after own_after (refused_up asks hub own after own_after sound owns refuses) none page word
     ∙ ap (λ (h : HubView). live_value base h page word) refuses.hub_is))
     (opened_words base own.client hub own refuses.opened own_after begins refuses.opens words)
   where

@@ -79,7 +79,7 @@ opened_shows shared hub own held after own_after shows sound owns opens =
     none = shows.stabilisations ∙ sound.quiet
 
     live : Live shared hub own.client
-    live = live_shown shared hub own.client shows sound owns.live
+    live = live_shown shared hub own.client shows sound owns.live owns.up
 
     machine_own : (opened shared (own_of own)).own ≡ record (own_of own) { cap = topped own (free_in hub); held = wants_of (kept_held hub own); pending = [] }
     machine_own = own_opened shared hub own shows sound owns
@@ -116,7 +116,7 @@ opened_shows shared hub own held after own_after shows sound owns opens =
 served_shows : (shared : Shared) (hub : HubView) (own : cache.Own) (held : List Held) (after : HubView) (own_after : cache.Own) → Shows shared hub → Whole hub → Owning hub own
     → Opens own.client hub (record own { held = held }) after own_after → Shows (serve shared (own_of own)).shared after
 served_shows shared hub own held after own_after shows sound owns opens =
-    subst (λ fallen. Shows (served_by shared (own_of own) fallen).shared after) (sym (fallen_shown shared hub shows sound own.client))
+    subst (λ fallen. Shows (served_by shared (own_of own) fallen).shared after) (sym (fallen_shown shared hub own shows owns))
     (opened_shows shared hub own held after own_after shows sound owns opens)
 
 -- and for a shared part that is good
@@ -152,4 +152,4 @@ serve_turn hub own after own_after sound owns opens = record {
   where
     turn : (shared : Shared) → Shows shared hub
         → (served.Ok ≡ (serve shared (own_of own)).reply) × Shows (serve shared (own_of own)).shared after × (own_of own_after ≡ (serve shared (own_of own)).own)
-    turn shared shows = served_turn shared hub own after own_after shows sound owns opens (fallen_at shared own.client) (fallen_shown shared hub shows sound own.client)
+    turn shared shows = served_turn shared hub own after own_after shows sound owns opens (fallen_at shared own.client) (fallen_shown shared hub own shows owns)

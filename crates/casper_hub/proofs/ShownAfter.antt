@@ -41,7 +41,7 @@ falls_the_same hub after more grows (Some fallen) marked =
     ap (λ items. Some (record { mark = fallen.mark; dropped = fallen.dropped; seen = live_entries items }))
     (sym (ap (take fallen.mark) grows ∙ take-append-le fallen.mark hub.trail more (omega (arith, below))))
 
-shown_by_others : (hub after : HubView) (more : List Item) → after.trail ≡ hub.trail ++ more → (place : Option Client) (shown : Option ClientView)
+pub shown_by_others : (hub after : HubView) (more : List Item) → after.trail ≡ hub.trail ++ more → (place : Option Client) (shown : Option ClientView)
     → ((client : ClientView) (fallen : FallenView) → shown ≡ Some client → client.fallen ≡ Some fallen → fallen.mark < length hub.trail)
     → ShowsClient hub.trail place shown → ShowsClient after.trail place shown
 shown_by_others hub after more grows None None marked shows = shows

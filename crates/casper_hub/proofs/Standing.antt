@@ -1,5 +1,5 @@
 use Rattle.std.proofs.Common.{◌≡◌, ◌<◌, ◌≤◌, ℕ, ◌+◌, ◌-◌, List, [], true, ◌&&◌, length, refl, sym, ap, ◌∙◌, subst, true≢false, arith}
-use Rattle.std.specs.Prelude.{Option, None, Some, is_some, option_map, find}
+use Rattle.std.specs.Prelude.{Option, None, Some, is_some, option_map, option_and_then, find}
 use Rattle.casper_trail.specs.TrailView.{entry_count}
 use Rattle.casper_trail.specs.Calls.{entry_by, entries_by}
 use Rattle.casper_trail.proofs.CallLists.{count_of_more_entries}
@@ -19,13 +19,13 @@ use Rattle.casper_model.proofs.Places.{client_changed}
 use Rattle.casper_model.proofs.OpeningRights.{places_changed}
 use Rattle.casper_model.proofs.AcquireRights.{within_places}
 use Rattle.casper_model.proofs.Caps.{caps_agreed, caps_same, IsCapped}
-use Rattle.casper_hub.specs.HubView.{HubView, ClientView, client_in, cap_of, is_live}
+use Rattle.casper_hub.specs.HubView.{HubView, ClientView, client_in, cap_of, fallen_in, is_live}
 use Rattle.casper_hub.specs.Shows.{permits, Shows, ShowsClient, ShowsLive}
 use Rattle.casper_hub.specs.Owned.{wants_of, own_of}
-use Rattle.casper_hub.proofs.Whole.{Whole, Owning, nobody_fell}
+use Rattle.casper_hub.proofs.Whole.{Whole, Owning}
 use Rattle.casper_hub.proofs.Showing.{allows_right, exclusive_shown}
 
--- a live client, as the machine has it
+-- a live client that has not fallen, as the machine has it
 pub record Live (shared : Shared) (hub : HubView) (who : ℕ) : Type 0 where
   pub client : Client
   pub shown : ClientView
@@ -36,22 +36,22 @@ pub record Live (shared : Shared) (hub : HubView) (who : ℕ) : Type 0 where
   pub up : shown.fallen ≡ None
 
 live_by : (shared : Shared) (hub : HubView) (who : ℕ) (place : Option Client) (shown : Option ClientView) → Whole hub → client_at shared who ≡ place → client_in hub who ≡ shown
-    → is_some shown ≡ true → ShowsClient hub.trail place shown → Live shared hub who
-live_by shared hub who None None sound at is live shows = absurd (true≢false (sym live))
-live_by shared hub who None (Some shown) sound at is live shows = absurd shows
-live_by shared hub who (Some client) None sound at is live shows = absurd shows
-live_by shared hub who (Some client) (Some shown) sound at is live shows = record {
+    → is_some shown ≡ true → ShowsClient hub.trail place shown → fallen_in hub who ≡ None → Live shared hub who
+live_by shared hub who None None sound at is live shows up = absurd (true≢false (sym live))
+live_by shared hub who None (Some shown) sound at is live shows up = absurd shows
+live_by shared hub who (Some client) None sound at is live shows up = absurd shows
+live_by shared hub who (Some client) (Some shown) sound at is live shows up = record {
   client = client;
   shown = shown;
   at = at;
   is = is;
   shows = shows;
-  kept = (sound.up who shown is).0;
-  up = (sound.up who shown is).1;
+  kept = sound.unkept who shown is;
+  up = sym (ap (option_and_then (λ (one : ClientView). one.fallen)) is) ∙ up;
 }
 
-pub live_shown : (shared : Shared) (hub : HubView) (who : ℕ) → Shows shared hub → Whole hub → is_live hub who ≡ true → Live shared hub who
-live_shown shared hub who shows sound live = live_by shared hub who (client_at shared who) (client_in hub who) sound refl refl live (shows.clients who)
+pub live_shown : (shared : Shared) (hub : HubView) (who : ℕ) → Shows shared hub → Whole hub → is_live hub who ≡ true → fallen_in hub who ≡ None → Live shared hub who
+live_shown shared hub who shows sound live up = live_by shared hub who (client_at shared who) (client_in hub who) sound refl refl live (shows.clients who) up
 
 nobody_at_zero : (shared : Shared) (hub : HubView) (place : Option Client) (shown : Option ClientView) → ShowsClient hub.trail place shown → shown ≡ None
     → place ≡ None
@@ -72,7 +72,7 @@ stands shared hub own shows sound owns = record {
 }
   where
     live : Live shared hub own.client
-    live = live_shown shared hub own.client shows sound owns.live
+    live = live_shown shared hub own.client shows sound owns.live owns.up
 
     up : live.client.fallen ≡ None
     up = live.shows.fallen ∙ ap (option_map _) live.up
@@ -82,7 +82,7 @@ stands shared hub own shows sound owns = record {
 
     same : AllowTheSame live.client.rights (wants_of own.held)
     same page right =
-        ap (λ place. allows (of_client [] (λ (client : Client). client.rights) place) page right) (sym live.at) ∙ shows.rights own.client page right ∙ ap (λ one. permits one right) (owns.rights (nobody_fell hub own.client sound) page) ∙ sym (allows_right own.held owns.sound.distinct page right)
+        ap (λ place. allows (of_client [] (λ (client : Client). client.rights) place) page right) (sym live.at) ∙ shows.rights own.client page right ∙ ap (λ one. permits one right) (owns.rights page) ∙ sym (allows_right own.held owns.sound.distinct page right)
 
 -- where nothing is being made stable an opening hands nothing in
 handed_to_none : (both : Both) (who : ℕ) (stabilisations : List Stabilisation) → stabilisations ≡ []

@@ -87,7 +87,7 @@ pub record Whole (hub : HubView) : Type 0 where
   pub within : entry_count hub.trail + caps_of hub.clients ≤ hub.limit
   pub marked : (who : ℕ) (fallen : FallenView) → fallen_in hub who ≡ Some fallen → fallen.mark < length hub.trail
   pub quiet : hub.stabilisations ≡ []
-  pub up : (who : ℕ) (client : ClientView) → client_in hub who ≡ Some client → (client.kept ≡ None) × (client.fallen ≡ None)
+  pub unkept : (who : ℕ) (client : ClientView) → client_in hub who ≡ Some client → client.kept ≡ None
 
 pub within_sound : (hub : HubView) → IsSound hub → entry_count hub.trail + caps_of hub.clients ≤ hub.limit
 within_sound hub sound =
@@ -117,20 +117,8 @@ whole hub sound plain = record {
   within = within_sound hub sound;
   marked = marked_sound hub sound;
   quiet = plain.quiet;
-  up = plain.up;
+  unkept = plain.unkept;
 }
-
--- no client of such a hub has fallen
-pub fallen_of_place : (place : Option ClientView) → ((client : ClientView) → place ≡ Some client → client.fallen ≡ None)
-    → option_and_then (λ (client : ClientView). client.fallen) place ≡ None
-fallen_of_place None up = refl
-fallen_of_place (Some client) up = up client refl
-
-pub nobody_fell : (hub : HubView) (who : ℕ) → Whole hub → fallen_in hub who ≡ None
-nobody_fell hub who sound = fallen_of_place (client_in hub who) (λ client is. (sound.up who client is).1)
-
-pub fallen_shown : (shared : Shared) (hub : HubView) → Shows shared hub → Whole hub → (who : ℕ) → fallen_at shared who ≡ None
-fallen_shown shared hub shows sound who = up_shown shared hub shows who (nobody_fell hub who sound)
 
 -- what is known to all of a live client agrees with its own part
 agreed_cap : (place : Option Client) (own : machine.Own) → is_some place ≡ true → Agrees place own → of_client 0 (λ client. client.cap) place ≡ own.cap
@@ -153,32 +141,35 @@ cap_shown trail None (Some shown) shows = absurd shows
 cap_shown trail (Some client) None shows = absurd shows
 cap_shown trail (Some client) (Some shown) shows = shows.cap
 
--- a cache is that of a live client, where both know the same rights and the same cap, and each pending call has its right
+-- a cache is that of a live client that has not fallen, where both know the same rights and the same cap, and each pending call has its
+-- right
 pub record Owning (hub : HubView) (own : cache.Own) : Type 0 where
   pub owned : Owns hub own
   pub sound : cache.IsSound own
   pub client : IsClient own.client
   pub live : is_live hub own.client ≡ true
+  pub up : fallen_in hub own.client ≡ None
   pub cap : cap_in hub own.client ≡ own.cap
   pub few : length own.held ≤ own.capacity
-  pub rights : fallen_in hub own.client ≡ None → (page : ℕ) → right_in hub own.client page ≡ right_of page own.held
-  pub calls : fallen_in hub own.client ≡ None → (call : Call) → Contains own.pending call → CallIsHeld (wants_of own.held) call
+  pub rights : (page : ℕ) → right_in hub own.client page ≡ right_of page own.held
+  pub calls : (call : Call) → Contains own.pending call → CallIsHeld (wants_of own.held) call
 
-pub owning : (hub : HubView) (own : cache.Own) → IsSound hub → Owns hub own → Owning hub own
-owning hub own sound owns = record {
+pub owning : (hub : HubView) (own : cache.Own) → IsSound hub → Owns hub own → fallen_in hub own.client ≡ None → Owning hub own
+owning hub own sound owns up = record {
   owned = owns;
   sound = owns.sound;
   client = mine.client;
   live = owns.live;
+  up = up;
   cap = sym (cap_shown hub.trail (client_at shared own.client) (client_in hub own.client) (shows.clients own.client))
       ∙ agreed_cap (client_at shared own.client) (own_of own) (liveness_shown shared hub shows own.client ∙ owns.live) mine.agrees;
   few = owns.few;
-  rights = λ up page.
+  rights = λ page.
       permits_same (right_in hub own.client page) (right_of page own.held)
       (λ right. sym (shows.rights own.client page right)
       ∙ agreed_rights (client_at shared own.client) (own_of own) (up_shown shared hub shows own.client up) mine.agrees page right
       ∙ allows_right own.held owns.sound.distinct page right);
-  calls = λ up. mine.calls (up_shown shared hub shows own.client up);
+  calls = mine.calls (up_shown shared hub shows own.client up);
 }
   where
     shared : Shared
@@ -189,6 +180,15 @@ owning hub own sound owns = record {
 
     mine : IsGoodWith shared (own_of own)
     mine = good_with hub (own_of own) owns.good shared shows (stands_for hub sound.stands).good
+
+-- whose cache a hub owns is a client
+pub client_owned : (hub : HubView) (own : cache.Own) → IsSound hub → Owns hub own → IsClient own.client
+client_owned hub own sound owns =
+    let found = stands_for hub sound.stands in (good_with hub (own_of own) owns.good found.shared found.shows found.good).client
+
+-- the machine has not felled such a client either
+pub fallen_shown : (shared : Shared) (hub : HubView) (own : cache.Own) → Shows shared hub → Owning hub own → fallen_at shared own.client ≡ None
+fallen_shown shared hub own shows owns = up_shown shared hub shows own.client owns.up
 
 -- the hub that a function shows is whole
 pub whole_at : (view hub : HubView) → view ≡ hub → IsSound view → IsPlain view → Whole hub

@@ -60,7 +60,8 @@ pub record GivesUp (who : ℕ) (pages : PagesView) (held : List Held) (after : P
   pub falls : (page : ℕ) → Falls (right_at pages.rights who page) (right_at after.rights who page)
   pub held_is : held_after ≡ filter_map (kept_as (right_at pages.rights who) (right_at after.rights who)) held
   pub framed : (page : ℕ) → IsSome (frame_in pages page) → IsSome (frame_in after page)
-  pub words : (value stored : ℕ → ℕ → ℕ) → ServerIsRight value stored pages → HeldIsRight value held → ServerIsRight value stored after
+  pub words : (modified : ℕ → Bool) (value stored : ℕ → ℕ → ℕ) → ServerIsRight modified value stored pages → HeldIsRight value held
+      → ServerIsRight modified value stored after
 
 -- a cache holds the pages to which its client has rights, each once and with these rights, and the server has a frame of each that
 -- the client may write

@@ -1,4 +1,4 @@
-use Rattle.std.specs.Prelude.{ℕ, List, [], Bool, Option, None, Some, is_some, length, option_map, slice_index_or, sum_by, take, ◌-◌, option_and_then}
+use Rattle.std.specs.Prelude.{ℕ, List, [], Bool, false, Option, None, Some, is_some, is_none, length, option_map, slice_index_or, sum_by, count_by, take, ◌-◌, option_and_then}
 use Rattle.std.specs.Option.{option_map_or}
 use Rattle.casper_words.specs.declared.page.Want.{Want}
 use Rattle.casper_words.specs.declared.page.Right.{Right}
@@ -52,12 +52,31 @@ cap_of place = option_map_or (λ client. client.cap) place 0
 abbrev pub asks_of : Option ClientView → List Want
 asks_of place = option_map_or (λ client. client.asks) place []
 
+-- the fall of the client of a place, if it is fallen
+abbrev pub fall_of : Option ClientView → Option FallenView
+fall_of place = option_and_then (λ client. client.fallen) place
+
 -- a place whose client, if it is live, has this cap, or these asks
 abbrev pub with_cap : ℕ → Option ClientView → Option ClientView
 with_cap cap place = option_map {T = ClientView} (λ client. record client { cap = cap }) place
 
 abbrev pub with_asks : List Want → Option ClientView → Option ClientView
 with_asks asks place = option_map {T = ClientView} (λ client. record client { asks = asks }) place
+
+-- a place whose client, if it is live, was told of its fall, or falls: then its asks are taken away
+abbrev pub risen : Option ClientView → Option ClientView
+risen place = option_map {T = ClientView} (λ client. record client { fallen = None }) place
+
+abbrev pub felled : FallenView → Option ClientView → Option ClientView
+felled fallen place = option_map {T = ClientView} (λ client. record client { asks = []; fallen = Some fallen }) place
+
+-- whether the client of a place is live and not fallen, and how many are
+abbrev pub is_up : Option ClientView → Bool
+is_up None = false
+is_up (Some client) = is_none client.fallen
+
+abbrev pub count_up : List (Option ClientView) → ℕ
+count_up clients = count_by is_up clients
 
 -- how many entries are promised to all clients together
 abbrev pub caps_of : List (Option ClientView) → ℕ
@@ -80,7 +99,7 @@ abbrev pub asks_in : HubView → ℕ → List Want
 asks_in hub who = asks_of (client_in hub who)
 
 abbrev pub fallen_in : HubView → ℕ → Option FallenView
-fallen_in hub who = option_and_then (λ client. client.fallen) (client_in hub who)
+fallen_in hub who = fall_of (client_in hub who)
 
 -- the right of a client to a page
 abbrev pub right_in : HubView → ℕ → ℕ → Option Right

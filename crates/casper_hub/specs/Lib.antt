@@ -1,13 +1,16 @@
 pub mod Asks
 pub mod Deciding
+pub mod Felling
 pub mod Given
 pub mod GoesOn
 pub mod HubFields
 pub mod HubView
 pub mod Installing
+pub mod Keeping
 pub mod Owned
 pub mod Places
 pub mod Relying
+pub mod RollingBack
 pub mod Shows
 pub mod Sound
 pub mod Stages

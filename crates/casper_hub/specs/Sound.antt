@@ -32,7 +32,7 @@ pub record IsSound (hub : HubView) : Type 0 where
   pub formed : IsWellFormed hub
   pub stands : Stands hub
 
--- as yet no client has fallen, no outcome is kept, and nothing is being made stable
+-- as yet nothing is being made stable, and no outcome is kept
 pub record IsPlain (hub : HubView) : Type 0 where
   pub quiet : hub.stabilisations ≡ []
-  pub up : (who : ℕ) (client : ClientView) → client_in hub who ≡ Some client → (client.kept ≡ None) × (client.fallen ≡ None)
+  pub unkept : (who : ℕ) (client : ClientView) → client_in hub who ≡ Some client → client.kept ≡ None

@@ -8,7 +8,7 @@ use Rattle.casper_model.specs.declared.reply.Reply.{Reply}
 use Rattle.casper_model.specs.declared.reply.Reply.TheVariants.{Granted, Pending, Frozen, InDoubt, RolledBack, TrailFull, Load}
 use Rattle.casper_model.specs.Own as machine
 use Rattle.casper_model.specs.Shared.{Shared}
-use Rattle.casper_model.specs.Both.{Turned, turned}
+use Rattle.casper_model.specs.Both.{Changed, Turned, turned}
 use Rattle.casper_model.specs.Acquire.{acquire, missing_once_opened, with_asks}
 use Rattle.casper_model.specs.Opening.{opened}
 use Rattle.casper_model.specs.Join.{join}
@@ -22,6 +22,12 @@ pub record IsTurn {R : Type 0} (turn : Shared → machine.Own → Turned R) (rep
   pub replies : (shared : Shared) → Shows shared hub → reply ≡ (turn shared (own_of own)).reply
   pub shows : (shared : Shared) → Shows shared hub → Shows (turn shared (own_of own)).shared after
   pub owns : (shared : Shared) → Shows shared hub → own_of own_after ≡ (turn shared (own_of own)).own
+
+-- a change of the shared part alone was made: whatever shared part the hub stands for, the reply and the hub after it are those that the
+-- change gives
+pub record IsChange {R : Type 0} (change : Shared → Changed R) (reply : R) (hub after : HubView) : Type 0 where
+  pub replies : (shared : Shared) → Shows shared hub → reply ≡ (change shared).reply
+  pub shows : (shared : Shared) → Shows shared hub → Shows (change shared).shared after
 
 -- the first of these wants of whose page the server has no frame
 abbrev pub first_unframed : HubView → List Want → Option Want

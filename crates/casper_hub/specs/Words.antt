@@ -1,6 +1,7 @@
-use Rattle.std.specs.Prelude.{◌≡◌, ℕ, ◌<◌, List, ◌++◌, None, slice_index, length, IfSome, MatchOption}
+use Rattle.std.specs.Prelude.{◌≡◌, ℕ, ◌<◌, Bool, false, List, ◌++◌, Some, slice_index, length, IfSome, MatchOption}
 use Rattle.casper_trail.specs.Value.{value_of}
 use Rattle.casper_trail.specs.Calls.{entries_by}
+use Rattle.casper_trail.specs.Modified.{is_modified}
 use Rattle.casper_trail.specs.Parts.{live_entries, stable_entries}
 use Rattle.casper_dir.specs.Rights.{writer_at}
 use Rattle.casper_cache.specs.declared.held.Held.{Held}
@@ -13,10 +14,15 @@ pub record AreWords (value : ℕ → ℕ → ℕ) (page : ℕ) (words : List ℕ
   pub long : length words ≡ 512
   pub each : (word : ℕ) → word < 512 → slice_index words word ≡ value page word
 
--- a page that nobody holds for writing has these values: at the server, or where the server has no frame of it, at the vault
-abbrev pub ServerIsRight : (ℕ → ℕ → ℕ) → (ℕ → ℕ → ℕ) → PagesView → Type 0
-ServerIsRight value stored pages =
-    (page : ℕ) → writer_at pages.rights page ≡ None →
+-- nobody holds a page for writing, or the page is not modified
+abbrev pub HasNoOpenWriter : (ℕ → Bool) → PagesView → ℕ → Type 0
+HasNoOpenWriter modified pages page = (who : ℕ) → writer_at pages.rights page ≡ Some who → modified page ≡ false
+
+-- a page that nobody holds for writing has these values, and so has one that is held for writing and not modified: at the server, or
+-- where the server has no frame of it, at the vault
+abbrev pub ServerIsRight : (ℕ → Bool) → (ℕ → ℕ → ℕ) → (ℕ → ℕ → ℕ) → PagesView → Type 0
+ServerIsRight modified value stored pages =
+    (page : ℕ) → HasNoOpenWriter modified pages page →
     MatchOption (frame_in pages page) ((word : ℕ) → word < 512 → value page word ≡ stored page word) (λ words. AreWords value page words)
 
 -- each held page has these values
@@ -33,9 +39,10 @@ stored_value base hub page word = value_of base (stable_entries hub.trail) page 
 abbrev pub seen_value : List (List ℕ) → HubView → cache.Own → ℕ → ℕ → ℕ
 seen_value base hub own page word = value_of base (live_entries (items_seen hub own.client) ++ entries_by own.client own.pending) page word
 
--- the frames of the server are right over an opening array
+-- the frames of the server are right over an opening array, whoever holds the pages: the server lacks open writes of a page's writer
+-- alone
 abbrev pub FramesAreRight : List (List ℕ) → HubView → Type 0
-FramesAreRight base hub = ServerIsRight (live_value base hub) (stored_value base hub) hub.pages
+FramesAreRight base hub = ServerIsRight (is_modified hub.trail) (live_value base hub) (stored_value base hub) hub.pages
 
 -- and so are those of a cache
 abbrev pub CacheIsRight : List (List ℕ) → HubView → cache.Own → Type 0

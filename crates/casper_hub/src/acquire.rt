@@ -1,4 +1,4 @@
-ghost use Rattle.std.specs.Prelude.{◌≡◌, ◌≢◌, ◌<◌, ◌≤◌, ◌+◌, ◌++◌, ℕ, List, length, IfOk, OnOk, OnErr, Contains};
+ghost use Rattle.std.specs.Prelude.{◌≡◌, ◌≢◌, ◌<◌, ◌≤◌, ◌+◌, ◌++◌, ℕ, List, length, None, IfOk, OnOk, OnErr, Contains};
 ghost use Rattle.casper_words.specs.Wants.{AreWants};
 ghost use Rattle.casper_words.specs.declared.page.Want.{Want as AWant};
 ghost use Rattle.casper_trail.specs.Calls.{entries_by};
@@ -6,7 +6,7 @@ ghost use Rattle.casper_trail.specs.Parts.{as_items};
 ghost use Rattle.casper_model.specs.declared.reply.Reply.{Reply as AReply};
 ghost use Rattle.casper_model.specs.declared.reply.Reply.TheVariants.{Granted};
 ghost use Rattle.casper_model.specs.Acquire.{acquire as machine_acquire};
-ghost use Rattle.casper_hub.specs.HubView.{page_count, free_in};
+ghost use Rattle.casper_hub.specs.HubView.{page_count, free_in, fallen_in};
 ghost use Rattle.casper_hub.specs.Owned.{Owns};
 ghost use Rattle.casper_hub.specs.Sound.{IsSound};
 ghost use Rattle.casper_hub.specs.GoesOn.{KeepsClient, CommitsNothing};
@@ -19,14 +19,14 @@ use crate::Hub;
 use crate::decide::{Decision, decide};
 use crate::few::FewWants;
 use crate::install::{bring_to_front, grant, install, shrink};
-use crate::opening::{MOST_CAP, free_room, open};
+use crate::opening::{MOST_CAP, SPARE_MARKS, free_room, open};
 use casper_cache::Cache;
 use casper_model::Reply;
 use casper_trail::Mark;
 use casper_words::{Memory, Want, Who};
 
 impl Hub {
-    /// A turn in which a live client wants pages, and room for so many calls. Load comes exactly where it would be granted and the
+    /// A turn in which a live client wants pages, and room for so many calls. One that had fallen is told of its fall instead. Load comes exactly where it would be granted and the
     /// server has no frame of a missing page; then nothing has changed, and the page is to be read and supplied. After Memory nothing
     /// has changed.
     pub fn acquire(
@@ -57,6 +57,15 @@ impl Hub {
         ensures still { CommitsNothing self.old self.new }
         ensures sound { IsSound self.new }
     {
+        let _mark: Option<Mark> = None;
+        if let Some(fall) = self.clients.fall(who) {
+            let unrecorded = self.tell(who, cache, fall)?;
+            return Ok(Reply::RolledBack {
+                mark: fall.mark,
+                recorded: fall.dropped,
+                unrecorded,
+            });
+        }
         let pending = cache.pending().as_slice().len() as u32;
         let free = free_room(&self.trail, self.limit, &self.clients);
         let cap = MOST_CAP.min(self.clients.cap(who) - pending + free);
@@ -84,6 +93,7 @@ impl Hub {
     fn refuse(&mut self, who: Who, cache: &mut Cache, asks: FewWants) -> Result<(), Memory>
         requires client { cache.old.client ≡ who }
         requires owns { Owns self.old cache.old }
+        requires up { fallen_in self.old who ≡ None }
         requires range { (ask : AWant) → Contains asks ask → ask.page < page_count self.old }
         requires refused { (wants : List AWant) × (calls : ℕ) × (reply : AReply)
             × IsRefused self.old cache.old wants calls reply asks }
@@ -107,9 +117,11 @@ impl Hub {
         ensures sound { IsSound self.new }
     {
         let _mark: Option<Mark> = None;
-        self.trail.reserve(cache.pending().as_slice().len() as u32)?;
+        self.trail
+            .reserve(cache.pending().as_slice().len() as u32 + SPARE_MARKS)?;
         open(
             &mut self.trail,
+            &mut self.associations,
             self.limit,
             &mut self.clients,
             &mut self.pages,
@@ -133,6 +145,7 @@ impl Hub {
         requires wants { AreWants wants.now }
         requires range { (want : AWant) → Contains wants.now want
             → want.page < page_count self.old }
+        requires up { fallen_in self.old who ≡ None }
         requires grants { CanGrant who self.old cache.old wants.now missing.now }
         ensures turn { OnOk result ((calls : ℕ)
             → length missing.now + calls ≤ topped cache.old (free_in self.old)
@@ -152,16 +165,19 @@ impl Hub {
         let _mark: Option<Mark> = None;
         let missing = missing.as_slice();
         let pending = cache.pending().as_slice().len() as u32;
-        self.trail.reserve(pending + missing.len() as u32)?;
+        self.trail
+            .reserve(pending + missing.len() as u32 + SPARE_MARKS)?;
         install(&self.pages, cache, missing)?;
         open(
             &mut self.trail,
+            &mut self.associations,
             self.limit,
             &mut self.clients,
             &mut self.pages,
             who,
             cache,
         );
+        self.associations.touch_each(who, missing);
         grant(&mut self.trail, &mut self.pages, who, cache, missing);
         let cap = self.clients.cap(who) - missing.len() as u32;
         self.clients.set_cap(who, cap);

@@ -1,8 +1,9 @@
-ghost use Rattle.std.specs.Prelude.{◌≡◌, ◌&&◌, ◌+◌, ◌≤◌, ◌<◌, ◌^◌, ℕ, [], length, replicate, slice_set, is_some, IsSome, IfOk, Some, None, if◌then◌else◌};
+ghost use Rattle.std.specs.Prelude.{◌≡◌, ◌&&◌, ◌+◌, ◌≤◌, ◌<◌, ◌^◌, ℕ, [], length, replicate, slice_set, is_some, IsSome, IfOk, Some, None, option_map, if◌then◌else◌};
 ghost use Rattle.casper_words.specs.Crew.{crew_of};
 ghost use Rattle.casper_model.specs.Held.{is_to_write, is_of};
 ghost use Rattle.casper_model.specs.Opening.{any_right};
-ghost use Rattle.casper_hub.specs.HubView.{ClientView, new_client_view, place_in, cap_of, asks_of, caps_of, with_cap, with_asks};
+ghost use Rattle.casper_hub.specs.HubView.{ClientView, new_client_view, place_in, cap_of, asks_of, fall_of, caps_of, with_cap, with_asks, risen, felled};
+ghost use Rattle.casper_hub.specs.Places.{shown_fall};
 ghost use Rattle.casper_hub.specs.Asks.{are_for as are_among, asks_for};
 
 use crate::few::FewWants;
@@ -10,11 +11,19 @@ use casper_words::{Crew, Memory, Page, Right, Want, Who};
 use std::alloc::Global;
 use std::marker::Model;
 
-/// What is known of a live client: how many more entries may be recorded for it, and its asks.
+/// A fall of which its client was not told yet: where the rollback mark stands, and how many of the client's recorded calls it dropped.
+#[derive(Clone, Copy)]
+pub(crate) struct Fall {
+    pub(crate) mark: u64,
+    pub(crate) dropped: u32,
+}
+
+/// What is known of a live client: how many more entries may be recorded for it, its asks, and its fall, if it is fallen.
 #[derive(Drop)]
 pub(crate) struct Place {
     cap: u32,
     asks: FewWants,
+    fall: Option<Fall>,
 }
 
 /// The live clients, each at the place of its number. Contracts see the list of the places.
@@ -94,7 +103,11 @@ impl Clients {
         ensures { self.new ≡ slice_set self.old who (Some (new_client_view cap)) }
     {
         let asks = FewWants::none();
-        self.places[who.number() as usize] = Some(Place { cap, asks });
+        self.places[who.number() as usize] = Some(Place {
+            cap,
+            asks,
+            fall: None,
+        });
     }
 
     /// Makes a client absent.
@@ -121,6 +134,38 @@ impl Clients {
         let place = &mut self.places[who.number() as usize];
         if let Some(client) = place {
             client.asks = asks;
+        }
+    }
+
+    /// The fall of a client, where it is fallen.
+    pub(crate) fn fall(&self, who: Who) -> Option<Fall>
+        ensures { option_map shown_fall result ≡ fall_of (place_in self.now who) }
+    {
+        match &self.places[who.number() as usize] {
+            Some(place) => place.fall,
+            None => None,
+        }
+    }
+
+    /// Notes that a client, if it is live, was told of its fall.
+    pub(crate) fn rise(&mut self, who: Who)
+        ensures { self.new ≡ slice_set self.old who (risen (place_in self.old who)) }
+    {
+        let place = &mut self.places[who.number() as usize];
+        if let Some(client) = place {
+            client.fall = None;
+        }
+    }
+
+    /// Notes that a client, if it is live, fell. Its asks are taken away.
+    pub(crate) fn fell(&mut self, who: Who, fall: Fall)
+        ensures { self.new
+            ≡ slice_set self.old who (felled (shown_fall fall) (place_in self.old who)) }
+    {
+        let place = &mut self.places[who.number() as usize];
+        if let Some(client) = place {
+            client.asks = FewWants::none();
+            client.fall = Some(fall);
         }
     }
 

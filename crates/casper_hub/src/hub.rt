@@ -10,8 +10,9 @@ ghost use Rattle.casper_hub.specs.Words.{FramesAreRight, IsStored};
 ghost use Rattle.casper_hub.specs.Turns.{Joins};
 
 use crate::clients::Clients;
-use crate::opening::{MOST_CAP, free_room};
+use crate::opening::{MOST_CAP, SPARE_MARKS, free_room};
 use crate::pages::Pages;
+use casper_assoc::Associations;
 use casper_model::JoinRefusal;
 use casper_trail::{Mark, Trail};
 use casper_words::{Frame, Memory, Page, Who};
@@ -25,6 +26,7 @@ pub struct Hub {
     pub(crate) trail: Trail,
     pub(crate) limit: u32,
     pub(crate) clients: Clients,
+    pub(crate) associations: Associations,
     pub(crate) pages: Pages,
 }
 
@@ -36,11 +38,13 @@ impl Model for Hub {
 
     ghost use Rattle.casper_hub.specs.HubFields.{hub_of};
     ghost use Rattle.casper_hub.specs.Sound.{IsSound, IsPlain};
+    ghost use Rattle.casper_hub.specs.Keeping.{IsKeptUp};
 
     ghost view = { λ hub. hub_of hub.trail.items hub.limit hub.clients hub.pages };
 
     ghost invariant = { λ hub. IsSound (hub_of hub.trail.items hub.limit hub.clients hub.pages)
-        × IsPlain (hub_of hub.trail.items hub.limit hub.clients hub.pages) × (hub.trail.limit ≡ hub.limit) };
+        × IsPlain (hub_of hub.trail.items hub.limit hub.clients hub.pages)
+        × IsKeptUp hub.trail hub.limit hub.associations hub.clients hub.pages };
 }
 
 impl Hub {
@@ -55,17 +59,19 @@ impl Hub {
         ensures sound { IfOk result (λ hub. IsSound hub) }
     {
         let clients = Clients::new(alloc)?;
+        let associations = Associations::new(alloc, pages)?;
         let pages = Pages::new(alloc, pages)?;
         Ok(Hub {
             trail: Trail::new(alloc, limit),
             limit,
             clients,
+            associations,
             pages,
         })
     }
 
     /// Makes a client live, and promises it 4,100 entries, or as many as there is free room for. Busy where it is live,
-    /// TrailFull with the number of entries where there is no free room; then nothing has changed.
+    /// TrailFull with the number of entries where there is no free room; then, and after Memory, nothing has changed.
     pub fn join(&mut self, who: Who) -> Result<(), JoinRefusal>
         ensures turn { Joins who result self.old self.new }
         ensures live { OnOk result (is_live_in self.new who ≡ true) }
@@ -86,6 +92,9 @@ impl Hub {
         let free = free_room(&self.trail, self.limit, &self.clients);
         if free == 0 {
             return Err(JoinRefusal::TrailFull(self.trail.entries()));
+        }
+        if self.trail.reserve(SPARE_MARKS).is_err() {
+            return Err(JoinRefusal::Memory);
         }
         self.clients.join(who, MOST_CAP.min(free));
         Ok(())

@@ -79,6 +79,7 @@ pub(crate) fn grant(
         → conflicts_at pages.old.rights want.page who want.right ≡ [] }
     ensures trail { trail.new.items ≡ trail.old.items ++ as_items (touches_by who missing.now) }
     ensures limit { trail.new.limit ≡ trail.old.limit }
+    ensures room { trail.old.room ≡ trail.new.room + length missing.now }
     ensures count { length pages.new.rights ≡ length pages.old.rights }
     ensures rights { (page : ℕ)
         → right_at pages.new.rights who page

@@ -9,7 +9,7 @@ ghost use Rattle.casper_hub.specs.Turns.{IsTurn};
 
 use crate::Hub;
 use crate::install::give_up_all;
-use crate::opening::open;
+use crate::opening::{SPARE_MARKS, open};
 use casper_cache::Cache;
 use casper_model::Served;
 use casper_trail::Mark;
@@ -17,7 +17,7 @@ use casper_words::{Memory, Who};
 
 impl Hub {
     /// A turn of a live client that does no more than open: its pending calls are recorded, its cap is topped up, and pages are given
-    /// up to the asks of the others. After Memory nothing has changed.
+    /// up to the asks of the others. One that had fallen is told of its fall instead. After Memory nothing has changed.
     pub fn serve(&mut self, who: Who, cache: &mut Cache) -> Result<Served, Memory>
         requires client { cache.old.client ≡ who }
         requires owns { Owns self.old cache.old }
@@ -36,9 +36,19 @@ impl Hub {
         ensures sound { IsSound self.new }
     {
         let _mark: Option<Mark> = None;
-        self.trail.reserve(cache.pending().as_slice().len() as u32)?;
+        if let Some(fall) = self.clients.fall(who) {
+            let unrecorded = self.tell(who, cache, fall)?;
+            return Ok(Served::RolledBack {
+                mark: fall.mark,
+                recorded: fall.dropped,
+                unrecorded,
+            });
+        }
+        self.trail
+            .reserve(cache.pending().as_slice().len() as u32 + SPARE_MARKS)?;
         open(
             &mut self.trail,
+            &mut self.associations,
             self.limit,
             &mut self.clients,
             &mut self.pages,
@@ -48,8 +58,8 @@ impl Hub {
         Ok(Served::Ok)
     }
 
-    /// A turn in which a live client gives up every page and departs: it is absent after it. As yet no client falls, so none is told
-    /// of it. After Memory nothing has changed.
+    /// A turn in which a live client gives up every page and departs: it is absent after it. One that had fallen is told of its fall
+    /// instead, and stays live. After Memory nothing has changed.
     pub fn depart(&mut self, who: Who, cache: &mut Cache) -> Result<Served, Memory>
         requires client { cache.old.client ≡ who }
         requires owns { Owns self.old cache.old }
@@ -57,7 +67,6 @@ impl Hub {
             (λ reply. IsTurn machine_depart reply self.old cache.old self.new cache.new) }
         ensures memory { OnErr result (self.new ≡ self.old) }
         ensures cache_stays { OnErr result (cache.new ≡ cache.old) }
-        ensures departed { IfOk result (λ reply. reply ≡ Served.Ok) }
         ensures absent { IfOk result (λ reply. reply ≡ Served.Ok
             → is_live_in self.new who ≡ false) }
         ensures owned { is_live_in self.new who ≡ true → Owns self.new cache.new }
@@ -71,9 +80,19 @@ impl Hub {
         ensures sound { IsSound self.new }
     {
         let _mark: Option<Mark> = None;
-        self.trail.reserve(cache.pending().as_slice().len() as u32)?;
+        if let Some(fall) = self.clients.fall(who) {
+            let unrecorded = self.tell(who, cache, fall)?;
+            return Ok(Served::RolledBack {
+                mark: fall.mark,
+                recorded: fall.dropped,
+                unrecorded,
+            });
+        }
+        self.trail
+            .reserve(cache.pending().as_slice().len() as u32 + SPARE_MARKS)?;
         open(
             &mut self.trail,
+            &mut self.associations,
             self.limit,
             &mut self.clients,
             &mut self.pages,

@@ -9,8 +9,10 @@ mod hub;
 mod install;
 mod laws;
 mod leave;
+mod lose;
 mod opening;
 mod pages;
+mod tell;
 
 pub use hub::Hub;
 pub use laws::{hit_laws, relying_laws, standing_laws};

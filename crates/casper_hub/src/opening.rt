@@ -2,6 +2,7 @@ ghost use Rattle.std.specs.Prelude.{◌≡◌, ◌≢◌, ◌+◌, ◌-◌, ◌<
 ghost use Rattle.std.specs.List.{list_any};
 ghost use Rattle.casper_words.specs.declared.page.Want.{Want as AnAsk};
 ghost use Rattle.casper_trail.specs.TrailView.{entry_count};
+ghost use Rattle.casper_trail.specs.Clients.{AreOfClients};
 ghost use Rattle.casper_trail.specs.Parts.{as_items};
 ghost use Rattle.casper_trail.specs.Calls.{entries_by};
 ghost use Rattle.casper_dir.specs.Rights.{right_at};
@@ -12,17 +13,23 @@ ghost use Rattle.casper_cache.specs.Own.{IsSound as IsSoundCache};
 ghost use Rattle.casper_hub.specs.HubFields.{hub_of};
 ghost use Rattle.casper_hub.specs.Sound.{IsSound};
 ghost use Rattle.casper_hub.specs.Stages.{Opens};
+ghost use Rattle.casper_assoc.specs.TrailAssociations.{AreAssociationsOf, CallsAreWithin, RecordsCalls, open_calls_of, pages_in};
+ghost use Rattle.casper_hub.specs.Keeping.{MayBeRecorded};
 ghost use Rattle.casper_hub.specs.Asks.{are_for};
 ghost use Rattle.casper_hub.specs.Given.{Covers, Meets, topped, asked_below};
 
 use crate::clients::Clients;
 use crate::pages::Pages;
+use casper_assoc::Associations;
 use casper_cache::Cache;
 use casper_trail::{Mark, Trail};
 use casper_words::{Right, Want, Who};
 
 /// How many entries are promised to a client at the most.
 pub(crate) const MOST_CAP: u32 = 4100;
+
+/// So many marks the trail has room for after each turn, one for each client, so that a loss takes no memory.
+pub(crate) const SPARE_MARKS: u32 = Who::PLACES as u32;
 
 /// How many entries may still be promised, of so many that the trail may have.
 pub(crate) fn free_room(trail: &Trail, limit: u32, clients: &Clients) -> u32
@@ -35,12 +42,23 @@ pub(crate) fn free_room(trail: &Trail, limit: u32, clients: &Clients) -> u32
 }
 
 /// Records the pending calls of a client, in order, and tops its cap up as far as the free room allows. It takes no memory.
-fn record(trail: &mut Trail, clients: &mut Clients, who: Who, cache: &mut Cache, free: u32)
+fn record(
+    trail: &mut Trail,
+    associations: &mut Associations,
+    clients: &mut Clients,
+    who: Who,
+    cache: &mut Cache,
+    free: u32,
+)
     requires room { length cache.old.pending ≤ trail.old.room }
     requires limit { entry_count trail.old.items + length cache.old.pending ≤ trail.old.limit }
     requires cap { cap_of (place_in clients.old who) ≡ cache.old.cap }
     requires pending { length cache.old.pending ≤ cache.old.cap }
     requires fits { cache.old.cap + free < 2 ^ 32 }
+    requires within { CallsAreWithin associations.old cache.old.pending }
+    requires count { open_calls_of associations.old who + length cache.old.pending < 2 ^ 32 }
+    ensures associations { RecordsCalls associations.old associations.new who cache.old.pending }
+    ensures pages { pages_in associations.new ≡ pages_in associations.old }
     ensures trail { trail.new.items
         ≡ trail.old.items ++ as_items (entries_by who cache.old.pending) }
     ensures limit { trail.new.limit ≡ trail.old.limit }
@@ -51,6 +69,7 @@ fn record(trail: &mut Trail, clients: &mut Clients, who: Who, cache: &mut Cache,
 {
     let _mark: Option<Mark> = None;
     let count = cache.pending().as_slice().len() as u32;
+    associations.record(who, cache.pending().as_slice());
     trail.push_all(who, cache.pending());
     cache.clear_pending();
     let cap = MOST_CAP.min(clients.cap(who) - count + free);
@@ -112,6 +131,7 @@ fn meet_all(pages: &mut Pages, clients: &Clients, who: Who, cache: &mut Cache)
 /// It takes no memory.
 pub(crate) fn open(
     trail: &mut Trail,
+    associations: &mut Associations,
     limit: u32,
     clients: &mut Clients,
     pages: &mut Pages,
@@ -124,6 +144,12 @@ pub(crate) fn open(
     requires cap { cap_of (place_in clients.old who) ≡ cache.old.cap }
     requires covers { Covers who pages.old cache.old.held }
     requires room { length cache.old.pending ≤ trail.old.room }
+    requires kept { AreAssociationsOf associations.old trail.old.items }
+    requires pages { pages_in associations.old ≡ length pages.old.rights }
+    requires calls { MayBeRecorded trail.old.items pages.old who cache.old.pending }
+    ensures associations { AreAssociationsOf associations.new trail.new.items }
+    ensures clients { AreOfClients trail.new.items }
+    ensures pages_stay { pages_in associations.new ≡ pages_in associations.old }
     ensures opens { Opens who (hub_of trail.old.items limit clients.old pages.old) cache.old
         (hub_of trail.new.items limit clients.new pages.new) cache.new }
     ensures limit { trail.new.limit ≡ trail.old.limit }
@@ -131,6 +157,6 @@ pub(crate) fn open(
     ensures own { IsSoundCache cache.new }
 {
     let free = free_room(trail, limit, clients);
-    record(trail, clients, who, cache, free);
+    record(trail, associations, clients, who, cache, free);
     meet_all(pages, clients, who, cache);
 }

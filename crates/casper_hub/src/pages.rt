@@ -1,8 +1,9 @@
-ghost use Rattle.std.specs.Prelude.{◌≡◌, ◌<◌, ◌^◌, ℕ, [], length, replicate, slice_set, is_some, IsSome, IsTrue, IfOk, OnSome, Some, None, if◌then◌else◌};
+ghost use Rattle.std.specs.Prelude.{◌≡◌, ◌<◌, ◌^◌, ℕ, [], true, length, replicate, slice_set, slice_index_or, is_some, IsSome, IsTrue, IfOk, OnSome, Some, None, if◌then◌else◌};
 ghost use Rattle.std.specs.Option.{option_copied};
 ghost use Rattle.casper_words.specs.Crew.{IsClient};
 ghost use Rattle.casper_dir.specs.Holding.{raised};
-ghost use Rattle.casper_dir.specs.Rights.{right_at, writer_at, conflicts_at, ChangesOneRight, AreAllClients};
+ghost use Rattle.casper_assoc.specs.Written.{is_listed};
+ghost use Rattle.casper_dir.specs.Rights.{right_at, writer_at, conflicts_at, ChangesOneRight, RevokesRights, AreAllClients};
 ghost use Rattle.casper_cache.specs.Holding.{right_of, words_of, others, lowered};
 ghost use Rattle.casper_hub.specs.HubView.{PagesView, frame_in};
 ghost use Rattle.casper_hub.specs.Given.{handed_in, Covers};
@@ -117,6 +118,29 @@ impl Pages {
         }
     }
 
+    /// Takes all rights of these clients away, without a hand-in. It goes over the pages once.
+    pub(crate) fn revoke(&mut self, members: Crew)
+        ensures count { length self.new.rights ≡ length self.old.rights }
+        ensures rights { RevokesRights self.old.rights self.new.rights members }
+        ensures holders { AreAllClients self.new.rights }
+        ensures frames { self.new.frames ≡ self.old.frames }
+    {
+        self.directory.revoke(members);
+    }
+
+    /// Drops the server's frames of these pages.
+    pub(crate) fn forget(&mut self, pages: &[Page])
+        requires { (page : ℕ) → is_listed page pages.now ≡ true → page < length self.old.rights }
+        ensures rights { self.new.rights ≡ self.old.rights }
+        ensures count { length self.new.frames ≡ length self.old.frames }
+        ensures frames { (page : ℕ) → frame_in self.new page
+            ≡ (if is_listed page pages.now then None else frame_in self.old page) }
+    {
+        // So that the proof knows the invariant: there are as many frames as pages.
+        let _rights = &self.directory;
+        forget_each(&mut self.frames, pages);
+    }
+
     /// Gives a client a right to a page, where nobody stands in the way.
     pub(crate) fn grant(&mut self, who: Who, want: Want)
         requires page { want.page < length self.old.rights }
@@ -161,5 +185,17 @@ impl Pages {
             self.directory.release(page, who);
         }
         cache.give_up(page, keep);
+    }
+}
+
+/// Takes the frame of each of these pages away.
+fn forget_each(frames: &mut [Option<Frame>], pages: &[Page])
+    requires { (page : ℕ) → is_listed page pages.now ≡ true → page < length frames.old }
+    ensures count { length frames.new ≡ length frames.old }
+    ensures forgotten { (page : ℕ) → slice_index_or frames.new page None
+        ≡ (if is_listed page pages.now then None else slice_index_or frames.old page None) }
+{
+    for page in pages {
+        frames[page.0 as usize] = None;
     }
 }

@@ -1,4 +1,4 @@
-use Rattle.std.proofs.Common.{◌≡◌, ℕ, zero, suc, ◌+◌, ◌-◌, ◌*◌, ◌/◌, ◌%◌, ◌^◌, ◌<◌, ◌≤◌, Bool, true, false, ◌&&◌, ◌||◌, not, eqb, ◌==◌, List, [], ◌∷◌, length, refl, sym, ◌∙◌, ap, inl, inr, subst, arith, bit_and, bit_or, max, ◌≢◌, ◌↔◌, Option, Some, None}
+use Rattle.std.proofs.Common.{◌≡◌, ℕ, zero, suc, ◌+◌, ◌-◌, ◌*◌, ◌/◌, ◌%◌, ◌^◌, ◌<◌, ◌≤◌, Bool, true, false, ◌&&◌, ◌||◌, not, eqb, ◌==◌, List, [], ◌∷◌, length, refl, sym, ◌∙◌, ap, inl, inr, subst, arith, bit_and, bit_or, min, max, ◌≢◌, ◌↔◌, Option, Some, None}
 use Rattle.std.specs.List.{range_with_len, filter, slice_get}
 use Rattle.std.specs.Option.{is_some, IsSome, IsNone, IfSome}
 use Rattle.std.specs.Int.{bit_at, w32, trailing_zeros}
@@ -10,7 +10,7 @@ use Rattle.std.specs.Cmp.Lexicographic.{pointwise}
 use Rattle.std.proofs.lemmas.Bool.Decides.{same_from_decides}
 use Rattle.std.proofs.lemmas.Slice.Eq.{bytes_eq-Decides}
 use Rattle.std.proofs.lemmas.Nat.{ones_cat}
-use Rattle.std.proofs.lemmas.Nat.Bits.{shr_and_one, bit_at-lt, bit_at_or, bit_at_set_same, bit_at_set_other, bit_at_clear_same, bit_at_clear_other, bit_at-trailing_zeros}
+use Rattle.std.proofs.lemmas.Nat.Bits.{shr_and_one, bit_at-lt, bit_at_and, bit_at_or, bit_at_not, bit_at_set_same, bit_at_set_other, bit_at_clear_same, bit_at_clear_other, bit_at-trailing_zeros}
 use Rattle.casper_words.specs.Crew.{IsClient, clients, has_member, crew_of, IsCrew}
 use Rattle.casper_words.specs.CrewBits.{bit_test, members_of_bits, bits_of, bits_of_members, crew_of_counted, bits_from_step, bit_test_at}
 use Rattle.casper_words.proofs.CrewLemmas.{has_member_crew_of, crew_of_same, IsCrew_crew_of}
@@ -166,6 +166,30 @@ members_union left right =
     ap (λ bit. bit == 1) (bit_at_or left right place)
     ∙ max_test (bit_at left place) (bit_at right place) (bit_at-lt left place) (bit_at-lt right place)
     ∙ sym (ap (λ test. test || has_member client (members_of_bits right)) on_left ∙ ap (λ test. bit_test left client || test) on_right))
+
+min_test : (left right : ℕ) → left < 2 → right < 2 → (min left (1 - right) == 1) ≡ ((left == 1) && not (right == 1))
+min_test left right low high =
+    elim (cases_eq right 1) [
+      | inl one ↦
+          let e : min left (1 - right) ≡ 0 = omega arith in
+          ap (λ bit. bit == 1) e ∙ sym (ap (λ bit. (left == 1) && not (bit == 1)) one ∙ and_false (left == 1))
+      | inr other ↦
+          let none : right ≡ 0 = omega arith in
+          let e : min left (1 - right) ≡ left = omega arith in
+          ap (λ bit. bit == 1) e ∙ sym (ap (λ bit. (left == 1) && not (bit == 1)) none ∙ and_true (left == 1))
+    ]
+
+-- to clear the bits of another crew removes its members
+pub members_minus : (left right : ℕ) → right < 2 ^ 32 → members_of_bits (bit_and left (2 ^ 32 - 1 - right)) ≡ crew_of (λ client. has_member client (members_of_bits left) && not (has_member client (members_of_bits right)))
+members_minus left right below =
+    crew_of_same (bit_test (bit_and left (2 ^ 32 - 1 - right))) (λ client. has_member client (members_of_bits left) && not (has_member client (members_of_bits right)))
+    (λ client is_client.
+    let place = client - 1 in
+    let on_left : has_member client (members_of_bits left) ≡ bit_test left client = has_member_crew_of (bit_test left) client is_client in
+    let on_right : has_member client (members_of_bits right) ≡ bit_test right client = has_member_crew_of (bit_test right) client is_client in
+    ap (λ bit. bit == 1) (bit_at_and left (2 ^ 32 - 1 - right) place ∙ ap (min (bit_at left place)) (bit_at_not w32 right place below (place_below client is_client)))
+    ∙ min_test (bit_at left place) (bit_at right place) (bit_at-lt left place) (bit_at-lt right place)
+    ∙ sym (ap (λ test. test && not (has_member client (members_of_bits right))) on_left ∙ ap (λ test. bit_test left client && not test) on_right))
 
 -- the first number of a range that passes a test
 pub first_of_range : (test : ℕ → Bool) (first count at : ℕ) → at < count → test (first + at) ≡ true → ((i : ℕ) → i < at → test (first + i) ≡ false) → slice_get (filter test (range_with_len first count)) 0 ≡ Some (first + at)

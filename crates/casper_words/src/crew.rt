@@ -95,6 +95,19 @@ impl Crew {
         }
     }
 
+    /// The members that are not in the other crew.
+    pub fn minus(self, other: Crew) -> Crew
+        ensures members { result
+            ≡ crew_of (λ client. has_member client self && not (has_member client other)) }
+        ensures crew { IsCrew result }
+        ensures left { IsCrew self }
+        ensures right { IsCrew other }
+    {
+        Crew {
+            bits: self.bits & !other.bits,
+        }
+    }
+
     /// The member with the least number, where there is a member.
     pub fn least(self) -> Option<Who>
         ensures first { result ≡ slice_get self 0 }

@@ -43,7 +43,7 @@ fn rights_after_calls(rt: HostRuntime) -> Result<(), Fail> {
     }
     assert_eq!(rt; directory.writer(Page(1)), None);
     assert_eq!(rt; directory.readers(Page(1)), Crew::none().with(one));
-    directory.revoke(one);
+    directory.revoke(Crew::none().with(one).with(two));
     assert_eq!(rt; directory.readers(Page(1)), Crew::none());
     Ok(())
 }

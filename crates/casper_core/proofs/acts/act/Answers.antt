@@ -1,8 +1,11 @@
-use Rattle.std.proofs.Common.{ap, ◌∙◌}
+use Rattle.std.proofs.Common.{sym, ap, ◌∙◌, subst}
 use Rattle.casper_model.specs.Own as machine
 use Rattle.casper_hub.specs.Owned.{own_of}
 use Rattle.casper_hub.proofs.StandsFor.{stands_for}
 use Rattle.casper_core.proofs.Acquires.{serve_capacity}
+use Rattle.casper_core.proofs.Loses.{lost_gives, lost_leaves, lost_holds}
+use Rattle.casper_core.specs.Acting.{IsTurnResult}
+use Rattle.casper_model.specs.Step.{lose_turn}
 use Rattle.casper_core.proofs.acts.act.Goals as goal
 
 pub returns-in_ok-serve-in-Serve-clause-holds : goal.returns-in_ok-serve-in-Serve-clause-holds
@@ -15,3 +18,24 @@ returns-in_ok-serve-in-Serve-clause-holds g c =
       owns = ensured.owned;
       words = λ told base stored frames words. ensured.words base frames words;
     }
+
+pub returns-in-Lose-clause-makes : goal.returns-in-Lose-clause-makes
+returns-in-Lose-clause-makes g c = λ state part.
+    subst (λ said. IsTurnResult c.args.who state (lose_turn c.args.who state) said c.lose.new.self (own_of c.args.cache.now)) (sym c.answer_of_lose.ensures)
+    (lost_gives c.args.who c.args.hub.now c.args.cache.now c.lose.result c.lose.new.self c.lose.ensures.turn state part)
+
+pub returns-in-Lose-clause-does : goal.returns-in-Lose-clause-does
+returns-in-Lose-clause-does g c = λ told state part.
+    subst (λ said. IsTurnResult c.args.who state (lose_turn c.args.who state) said c.lose.new.self (own_of c.args.cache.now)) (sym c.answer_of_lose.ensures)
+    (lost_gives c.args.who c.args.hub.now c.args.cache.now c.lose.result c.lose.new.self c.lose.ensures.turn state
+    (record { shared = part.shared; place = part.place; part = part.part }))
+
+pub returns-in-Lose-clause-leaves : goal.returns-in-Lose-clause-leaves
+returns-in-Lose-clause-leaves g c =
+    lost_leaves c.args.who g.V.Vault.tells (g.V.Vault.image c.args.vault.now) c.args.hub.now c.args.cache.now c.lose.new.self c.lose.ensures.others
+    c.lose.ensures.sound c.lose.ensures.frames
+
+pub returns-in-Lose-clause-holds : goal.returns-in-Lose-clause-holds
+returns-in-Lose-clause-holds g c =
+    lost_holds c.args.who g.V.Vault.tells (g.V.Vault.image c.args.vault.now) c.args.hub.now c.args.cache.now c.lose.new.self c.lose.ensures.others
+    c.requires.sound c.requires.owns c.requires.client

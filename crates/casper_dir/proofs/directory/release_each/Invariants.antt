@@ -6,5 +6,5 @@ use Rattle.casper_dir.proofs.directory.release_each.Given as goal
 abbrev pub invariant-loop-holders : goal.invariant-loop-holders
 invariant-loop-holders l = record {
   clients : AreAllClients l.pages;
-  revoked : RevokedBelow l.initial.pages l.pages l.who l.holders-index;
+  revoked : RevokedBelow l.initial.pages l.pages l.members l.holders-index;
 }

@@ -1,6 +1,14 @@
-use Rattle.std.proofs.Common.{◌<◌, List, length, Contains, subst, arith}
+use Rattle.std.proofs.Common.{◌<◌, ◌^◌, ℕ, List, length, Contains, sym, subst, arith}
 use Rattle.casper_words.specs.declared.page.Want.{Want}
+use Rattle.casper_trail.specs.declared.item.Item.{Item}
+use Rattle.casper_trail.specs.Calls.{entries_by}
+use Rattle.casper_trail.specs.Clients.{AreOfClients}
+use Rattle.casper_trail.specs.Parts.{as_items}
+use Rattle.casper_trail.proofs.CallLists.{clients_of_more, clients_of_calls}
+use Rattle.casper_assoc.specs.TrailAssociations.{AreAssociationsOf}
+use Rattle.casper_assoc.proofs.TrailCounts.{open_calls_are_entries}
 use Rattle.casper_hub.specs.Given.{topped}
+use Rattle.casper_hub.proofs.KeptUp.{clients_recorded}
 use Rattle.casper_hub.proofs.Recorded.{asks_beside_cap, opens_recorded, own_given, gives_recorded, sound_opened}
 use Rattle.casper_hub.specs.HubFields.{hub_of}
 use Rattle.casper_hub.proofs.Whole.{within_sound, cap_within, cap_fits, pending_within}
@@ -47,3 +55,30 @@ returns-clause-own c =
     (gives_recorded c.args.who (topped c.args.cache.now c.free_room-free.result) c.args.pages.now c.meet_all.new.pages c.args.cache.now c.record.new.cache c.meet_all.new.cache.held
     c.record.ensures.cache c.meet_all.ensures.meets.gives)
     (own_given c.args.cache.now c.record.new.cache c.meet_all.new.cache (topped c.args.cache.now c.free_room-free.result) c.record.ensures.cache c.meet_all.ensures.rest)
+
+pub record-requires-clause-within : goal.record-requires-clause-within
+record-requires-clause-within c call inside = subst (λ (n : ℕ). call.page < n) (sym c.requires.pages) (c.requires.calls.within call inside)
+
+pub record-requires-clause-count : goal.record-requires-clause-count
+record-requires-clause-count c =
+    let within = cap_within (hub_of c.args.trail.now.items c.args.limit c.args.clients.now c.args.pages.now) c.args.who c.requires.covers.client c.requires.sound in
+    let pending = pending_within c.args.cache.now c.requires.own in
+    let cap = c.requires.cap in
+    let fits : c.args.limit < 2 ^ 32 = c.requires.sound.formed.fits in
+    let calls = c.requires.kept.calls c.args.who c.requires.covers.client in
+    let few = open_calls_are_entries c.args.trail.now.items c.args.who in
+    omega (arith, within, pending, cap, fits, calls, few)
+
+pub returns-clause-associations : goal.returns-clause-associations
+returns-clause-associations c =
+    subst (λ (items : List Item). AreAssociationsOf c.record.new.associations items) (sym c.record.ensures.trail)
+    (c.record.ensures.associations c.args.trail.now.items
+    (clients_recorded (hub_of c.args.trail.now.items c.args.limit c.args.clients.now c.args.pages.now) c.requires.sound.stands)
+    c.requires.kept c.requires.calls.writers)
+
+pub returns-clause-clients : goal.returns-clause-clients
+returns-clause-clients c =
+    subst AreOfClients (sym c.record.ensures.trail)
+    (clients_of_more c.args.trail.now.items (as_items (entries_by c.args.who c.args.cache.now.pending))
+    (clients_recorded (hub_of c.args.trail.now.items c.args.limit c.args.clients.now c.args.pages.now) c.requires.sound.stands)
+    (clients_of_calls c.args.who c.args.cache.now.pending c.requires.covers.client))

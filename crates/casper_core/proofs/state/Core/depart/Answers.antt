@@ -1,16 +1,23 @@
-use Rattle.std.proofs.Common.{◌<◌, sym, ap, subst, arith, refl}
+use Rattle.std.proofs.Common.{◌<◌, ◌∙◌, sym, ap, subst, arith, refl}
 use Rattle.std.specs.Prelude.{Some, None, length, slice_set}
 use Rattle.casper_words.specs.Crew.{IsClient}
 use Rattle.casper_space.specs.declared.answer.Answer.TheVariants as answer
 use Rattle.casper_model.specs.declared.event.Event.TheVariants as event
 use Rattle.casper_model.specs.Answers.{of_depart}
+use Rattle.casper_model.specs.Leave.{depart}
+use Rattle.casper_model.specs.Own as machine
+use Rattle.casper_hub.specs.Owned.{own_of}
+use Rattle.casper_hub.proofs.StandsFor.{stands_for}
+use Rattle.casper_core.specs.Acting.{KeepsHubRight, Holds}
 use Rattle.casper_core.specs.CoreView.{CoreView, told_by}
 use Rattle.casper_core.specs.Placing.{placed}
 use Rattle.casper_core.specs.Shaped.{StepsInShape}
 use Rattle.casper_core.specs.Sound.{IsSound}
 use Rattle.casper_core.specs.Stepping.{Steps}
 use Rattle.casper_core.proofs.CoreTurns.{found_at, put_back}
-use Rattle.casper_core.proofs.Departs.{set_again, depart_absent, absent_depart_made, sound_depart, depart_steps, depart_made}
+use Rattle.casper_core.proofs.Departs.{up_as_it_departs, departed_own, depart_capacity}
+use Rattle.casper_core.proofs.Leaves.{set_again, absent_leaving, absent_leaving_made, sound_left, leaving_steps, leaving_made, sound_stayed, staying_steps, staying_made}
+use Rattle.casper_core.proofs.Losses.{depart_is}
 use Rattle.casper_core.proofs.state.Core.depart.Goals as goal
 
 pub returns-in_default-clause-step : goal.returns-in_default-clause-step
@@ -30,7 +37,7 @@ returns-in_default-clause-step g c = λ told.
     let below : c.args.who < length core.caches = omega (arith, client.1, sound.places) in
     let none = found_at core.caches c.number-place.result c.args.who c.index_mut.result.now None same below c.index_mut.ensures.value c.in_default.is in
     subst (λ one. Steps (event.Depart c.args.who) answer.Absent one (record core { caches = slice_set core.caches c.number-place.result c.index_mut.result.now })) c.self.view_is
-    (depart_absent core c.number-place.result c.args.who same client sound (slice_set core.caches c.number-place.result c.index_mut.result.now) none
+    (absent_leaving depart of_depart (event.Depart c.args.who) core c.number-place.result c.args.who same client (depart_is c.args.who client) sound (slice_set core.caches c.number-place.result c.index_mut.result.now) none
     (put_back core.caches c.number-place.result c.index_mut.result.now c.index_mut.ensures.value))
 
 pub returns-in_default-clause-shape : goal.returns-in_default-clause-shape
@@ -50,7 +57,7 @@ returns-in_default-clause-shape g c =
     let below : c.args.who < length core.caches = omega (arith, client.1, sound.places) in
     let none = found_at core.caches c.number-place.result c.args.who c.index_mut.result.now None same below c.index_mut.ensures.value c.in_default.is in
     subst (λ one. StepsInShape (event.Depart c.args.who) answer.Absent one (record core { caches = slice_set core.caches c.number-place.result c.index_mut.result.now })) c.self.view_is
-    (absent_depart_made core c.number-place.result c.args.who same client sound (slice_set core.caches c.number-place.result c.index_mut.result.now) none
+    (absent_leaving_made depart of_depart (event.Depart c.args.who) core c.number-place.result c.args.who same client (depart_is c.args.who client) sound (slice_set core.caches c.number-place.result c.index_mut.result.now) none
     (put_back core.caches c.number-place.result c.index_mut.result.now c.index_mut.ensures.value))
 
 pub depart-requires-clause-client : goal.depart-requires-clause-client
@@ -109,7 +116,7 @@ invariant_of-self-in-Ok g c =
     let left = ensured.absent c.in-Ok.is in
     let twice = set_again core.caches c.number-place.result (Some c.depart.new.cache) None in
     subst (λ caches. IsSound (record (placed core c.number-place.result c.depart.new.self None core.calls core.vault core.size core.told) { caches = caches })) (sym twice)
-    (sound_depart core c.number-place.result c.args.who same client sound c.in-Some.cache found c.depart.new.self c.depart.new.cache c.in_ok-reply.reply ensured.departed ensured.turn left ensured.client_after ensured.others ensured.sound
+    (sound_left depart of_depart (event.Depart c.args.who) core c.number-place.result c.args.who same client (depart_is c.args.who client) sound c.in-Some.cache found c.depart.new.self c.depart.new.cache c.in_ok-reply.reply ensured.turn left ensured.client_after ensured.others ensured.sound
     core.calls core.vault core.size core.told refl sound.sure)
 
 pub returns-in-Ok-clause-step : goal.returns-in-Ok-clause-step
@@ -135,8 +142,9 @@ returns-in-Ok-clause-step g c = λ told.
     subst (λ one. Steps (event.Depart c.args.who) answer.Left one (record after { caches = slice_set (slice_set core.caches c.number-place.result (Some c.depart.new.cache)) c.number-place.result None })) c.self.view_is
     (subst (λ caches. Steps (event.Depart c.args.who) answer.Left core (record after { caches = caches })) (sym twice)
     (subst (λ said. Steps (event.Depart c.args.who) said core after) (ap of_depart c.in-Ok.is)
-    (depart_steps core c.number-place.result c.args.who same client sound c.in-Some.cache found c.depart.new.self c.depart.new.cache c.in_ok-reply.reply ensured.departed ensured.turn left ensured.client_after ensured.others ensured.sound
-    core.calls core.vault core.size core.told ensured.frames refl)))
+    (leaving_steps depart of_depart (event.Depart c.args.who) core c.number-place.result c.args.who same client (depart_is c.args.who client) sound c.in-Some.cache found c.depart.new.self c.depart.new.cache c.in_ok-reply.reply ensured.turn left ensured.client_after ensured.others ensured.sound
+    core.calls core.vault core.size core.told
+    (λ state shape. departed_own state.shared (own_of c.in-Some.cache) (up_as_it_departs state.shared (own_of c.in-Some.cache) (sym c.in-Ok.is ∙ ensured.turn.replies state.shared shape.shared))) ensured.frames refl)))
 
 pub returns-in-Ok-clause-shape : goal.returns-in-Ok-clause-shape
 returns-in-Ok-clause-shape g c =
@@ -161,8 +169,9 @@ returns-in-Ok-clause-shape g c =
     subst (λ one. StepsInShape (event.Depart c.args.who) answer.Left one (record after { caches = slice_set (slice_set core.caches c.number-place.result (Some c.depart.new.cache)) c.number-place.result None })) c.self.view_is
     (subst (λ caches. StepsInShape (event.Depart c.args.who) answer.Left core (record after { caches = caches })) (sym twice)
     (subst (λ said. StepsInShape (event.Depart c.args.who) said core after) (ap of_depart c.in-Ok.is)
-    (depart_made core c.number-place.result c.args.who same client sound c.in-Some.cache found c.depart.new.self c.depart.new.cache c.in_ok-reply.reply ensured.departed ensured.turn left ensured.client_after ensured.others ensured.sound
-    core.calls core.vault core.size core.told)))
+    (leaving_made depart of_depart (event.Depart c.args.who) core c.number-place.result c.args.who same client (depart_is c.args.who client) sound c.in-Some.cache found c.depart.new.self c.depart.new.cache c.in_ok-reply.reply ensured.turn left ensured.client_after ensured.others ensured.sound
+    core.calls core.vault core.size core.told
+    (λ state shape. departed_own state.shared (own_of c.in-Some.cache) (up_as_it_departs state.shared (own_of c.in-Some.cache) (sym c.in-Ok.is ∙ ensured.turn.replies state.shared shape.shared))))))
 
 pub returns-in-Ok-clause-sound : goal.returns-in-Ok-clause-sound
 returns-in-Ok-clause-sound g c =
@@ -184,7 +193,7 @@ returns-in-Ok-clause-sound g c =
     let left = ensured.absent c.in-Ok.is in
     let twice = set_again core.caches c.number-place.result (Some c.depart.new.cache) None in
     subst (λ caches. IsSound (record (placed core c.number-place.result c.depart.new.self None core.calls core.vault core.size core.told) { caches = caches })) (sym twice)
-    (sound_depart core c.number-place.result c.args.who same client sound c.in-Some.cache found c.depart.new.self c.depart.new.cache c.in_ok-reply.reply ensured.departed ensured.turn left ensured.client_after ensured.others ensured.sound
+    (sound_left depart of_depart (event.Depart c.args.who) core c.number-place.result c.args.who same client (depart_is c.args.who client) sound c.in-Some.cache found c.depart.new.self c.depart.new.cache c.in_ok-reply.reply ensured.turn left ensured.client_after ensured.others ensured.sound
     core.calls core.vault core.size core.told refl sound.sure)
 
 pub invariant_of-self-in_default-reply : goal.invariant_of-self-in_default-reply
@@ -204,16 +213,88 @@ invariant_of-self-in_default-reply g c =
     let below : c.args.who < length core.caches = omega (arith, client.1, sound.places) in
     let found = found_at core.caches c.number-place.result c.args.who c.index_mut.result.now (Some c.in-Some.cache) same below c.index_mut.ensures.value c.in-Some.is in
     let ensured = c.in_ok-reply.ensures in
-    absurd (c.in_default-reply.not-Ok c.in_ok-reply.ensures.departed)
+    let stands = stands_for core.hub sound.hub.stands in
+    let leaves : KeepsHubRight c.args.who g.V.Vault.tells core.told.image core.hub c.in-Some.cache c.depart.new.self = record {
+      sound = ensured.sound;
+      others = ensured.others;
+      frames = λ told base stored frames words. ensured.frames base frames words;
+    } in
+    let holds : Holds c.args.who g.V.Vault.tells core.told.image core.hub c.in-Some.cache c.depart.new.self c.depart.new.cache = record {
+      client = ensured.client_after;
+      capacity = ap (λ (own : machine.Own). own.capacity) (ensured.turn.owns stands.shared stands.shows) ∙ depart_capacity stands.shared (own_of c.in-Some.cache);
+      owns = ensured.owned (ensured.stays c.in_default-reply.not-Ok);
+      words = λ told base stored frames words. ensured.words base frames words;
+    } in
+    sound_stayed depart of_depart (event.Depart c.args.who) core c.number-place.result c.args.who same client (depart_is c.args.who client) sound c.in-Some.cache found c.depart.new.self c.depart.new.cache c.in_ok-reply.reply ensured.turn
+    g.V.Vault.tells leaves holds core.calls core.vault core.size core.told refl sound.sure
 
 pub returns-clause-step : goal.returns-clause-step
-returns-clause-step g c =
-    absurd (c.in_default-reply.not-Ok c.in_ok-reply.ensures.departed)
+returns-clause-step g c = λ told.
+    let core : CoreView g.row.V.Denot = record {
+      hub = c.self.inside.hub;
+      caches = c.self.inside.caches.items;
+      capacity = c.self.inside.capacity;
+      calls = c.self.inside.calls;
+      vault = c.self.inside.vault;
+      size = g.V.Vault.size c.self.inside.vault;
+      told = told_by g.V.Vault.image g.V.Vault.version g.V.Vault.room g.V.Vault.doubt c.self.inside.vault;
+    } in
+    let sound : IsSound core = c.self.invariant in
+    let same = c.number-place.ensures.number in
+    let client : IsClient c.args.who = subst IsClient same (c.number-place.ensures.least, c.number-place.ensures.most) in
+    let below : c.args.who < length core.caches = omega (arith, client.1, sound.places) in
+    let found = found_at core.caches c.number-place.result c.args.who c.index_mut.result.now (Some c.in-Some.cache) same below c.index_mut.ensures.value c.in-Some.is in
+    let ensured = c.in_ok-reply.ensures in
+    let stands = stands_for core.hub sound.hub.stands in
+    let leaves : KeepsHubRight c.args.who g.V.Vault.tells core.told.image core.hub c.in-Some.cache c.depart.new.self = record {
+      sound = ensured.sound;
+      others = ensured.others;
+      frames = λ told base stored frames words. ensured.frames base frames words;
+    } in
+    let holds : Holds c.args.who g.V.Vault.tells core.told.image core.hub c.in-Some.cache c.depart.new.self c.depart.new.cache = record {
+      client = ensured.client_after;
+      capacity = ap (λ (own : machine.Own). own.capacity) (ensured.turn.owns stands.shared stands.shows) ∙ depart_capacity stands.shared (own_of c.in-Some.cache);
+      owns = ensured.owned (ensured.stays c.in_default-reply.not-Ok);
+      words = λ told base stored frames words. ensured.words base frames words;
+    } in
+    subst (λ one. Steps (event.Depart c.args.who) c.answer_of_depart.result one (placed core c.number-place.result c.depart.new.self (Some c.depart.new.cache) core.calls core.vault core.size core.told)) c.self.view_is
+    (subst (λ said. Steps (event.Depart c.args.who) said core (placed core c.number-place.result c.depart.new.self (Some c.depart.new.cache) core.calls core.vault core.size core.told)) (sym c.answer_of_depart.ensures)
+    (staying_steps depart of_depart (event.Depart c.args.who) core c.number-place.result c.args.who same client (depart_is c.args.who client) sound c.in-Some.cache found c.depart.new.self c.depart.new.cache c.in_ok-reply.reply ensured.turn
+    g.V.Vault.tells leaves holds core.calls core.vault core.size core.told told refl))
 
 pub returns-clause-shape : goal.returns-clause-shape
 returns-clause-shape g c =
-    absurd (c.in_default-reply.not-Ok c.in_ok-reply.ensures.departed)
+    let core : CoreView g.row.V.Denot = record {
+      hub = c.self.inside.hub;
+      caches = c.self.inside.caches.items;
+      capacity = c.self.inside.capacity;
+      calls = c.self.inside.calls;
+      vault = c.self.inside.vault;
+      size = g.V.Vault.size c.self.inside.vault;
+      told = told_by g.V.Vault.image g.V.Vault.version g.V.Vault.room g.V.Vault.doubt c.self.inside.vault;
+    } in
+    let sound : IsSound core = c.self.invariant in
+    let same = c.number-place.ensures.number in
+    let client : IsClient c.args.who = subst IsClient same (c.number-place.ensures.least, c.number-place.ensures.most) in
+    let below : c.args.who < length core.caches = omega (arith, client.1, sound.places) in
+    let found = found_at core.caches c.number-place.result c.args.who c.index_mut.result.now (Some c.in-Some.cache) same below c.index_mut.ensures.value c.in-Some.is in
+    let ensured = c.in_ok-reply.ensures in
+    let stands = stands_for core.hub sound.hub.stands in
+    let leaves : KeepsHubRight c.args.who g.V.Vault.tells core.told.image core.hub c.in-Some.cache c.depart.new.self = record {
+      sound = ensured.sound;
+      others = ensured.others;
+      frames = λ told base stored frames words. ensured.frames base frames words;
+    } in
+    let holds : Holds c.args.who g.V.Vault.tells core.told.image core.hub c.in-Some.cache c.depart.new.self c.depart.new.cache = record {
+      client = ensured.client_after;
+      capacity = ap (λ (own : machine.Own). own.capacity) (ensured.turn.owns stands.shared stands.shows) ∙ depart_capacity stands.shared (own_of c.in-Some.cache);
+      owns = ensured.owned (ensured.stays c.in_default-reply.not-Ok);
+      words = λ told base stored frames words. ensured.words base frames words;
+    } in
+    subst (λ one. StepsInShape (event.Depart c.args.who) c.answer_of_depart.result one (placed core c.number-place.result c.depart.new.self (Some c.depart.new.cache) core.calls core.vault core.size core.told)) c.self.view_is
+    (subst (λ said. StepsInShape (event.Depart c.args.who) said core (placed core c.number-place.result c.depart.new.self (Some c.depart.new.cache) core.calls core.vault core.size core.told)) (sym c.answer_of_depart.ensures)
+    (staying_made depart of_depart (event.Depart c.args.who) core c.number-place.result c.args.who same client (depart_is c.args.who client) sound c.in-Some.cache found c.depart.new.self c.depart.new.cache c.in_ok-reply.reply ensured.turn
+    g.V.Vault.tells leaves holds core.calls core.vault core.size core.told))
 
 pub returns-clause-sound : goal.returns-clause-sound
-returns-clause-sound g c =
-    absurd (c.in_default-reply.not-Ok c.in_ok-reply.ensures.departed)
+returns-clause-sound g c = invariant_of-self-in_default-reply g c

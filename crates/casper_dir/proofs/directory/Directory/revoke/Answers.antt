@@ -23,6 +23,6 @@ returns-clause-clients c = invariant_of-self c
 pub returns-clause-rights : goal.returns-clause-rights
 returns-clause-rights c =
     let kept = with_items_is c.self.inside.pages c.release_each.new.pages (c.release_each.auto.pages ∙ c.deref_mut.ensures.len) in
-    let P : List Holders → Type 0 = λ new. RevokesRights c.args.self.now new c.args.who in
-    let Q : List Holders → Type 0 = λ old. RevokesRights old c.release_each.new.pages c.args.who in
+    let P : List Holders → Type 0 = λ new. RevokesRights c.args.self.now new c.args.members in
+    let Q : List Holders → Type 0 = λ old. RevokesRights old c.release_each.new.pages c.args.members in
     subst P (sym kept) (subst Q (c.deref_mut.ensures.value ∙ c.self.view_is) c.release_each.ensures.rights)

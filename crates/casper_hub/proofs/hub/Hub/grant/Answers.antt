@@ -1,4 +1,4 @@
-use Rattle.std.proofs.Common.{◌≡◌, ◌<◌, ◌∙◌, List, length, sym, ap, subst, Contains}
+use Rattle.std.proofs.Common.{◌≡◌, ◌<◌, ◌≤◌, ◌∙◌, List, length, sym, ap, subst, Contains}
 use Rattle.casper_words.specs.declared.page.Want.{Want}
 use Rattle.casper_cache.specs.Own as cache
 use Rattle.casper_hub.specs.HubView.{HubView, page_count}
@@ -33,6 +33,13 @@ use Rattle.casper_hub.proofs.Granting.{Granting, opened_is_sound, granted_formed
 use Rattle.casper_hub.proofs.MissingStays.{granted_held_is}
 use Rattle.casper_hub.proofs.Transport.{kept_by, stands_behind, keeps_others, keeps_still, owns_behind}
 use Rattle.casper_hub.proofs.Whole.{whole, owning}
+use Rattle.std.specs.Prelude.{None}
+use Rattle.casper_trail.specs.declared.item.Item.{Item}
+use Rattle.casper_assoc.specs.TrailAssociations.{AreAssociationsOf}
+use Rattle.casper_hub.specs.Keeping.{MayBeRecorded}
+use Rattle.casper_hub.specs.HubView.{fallen_in, cap_in}
+use Rattle.casper_hub.proofs.KeptUp.{room_after, may_record_for}
+use Rattle.casper_hub.proofs.ForClient.{owning_for}
 use Rattle.casper_hub.proofs.hub.Hub.grant.Goals as goal
 use Rattle.std.proofs.Common.{◌≤◌, ◌-◌, ℕ, [], IsSome, refl}
 use Rattle.std.specs.Prelude.{slice_set}
@@ -40,7 +47,7 @@ use Rattle.casper_dir.specs.Rights.{right_at, conflicts_at}
 use Rattle.casper_cache.specs.declared.held.Held.{Held}
 use Rattle.casper_cache.specs.Holding.{right_of}
 use Rattle.casper_hub.specs.HubView.{place_in, with_asks}
-use Rattle.casper_hub.proofs.Grants.{Made, granting_made, fronted_held, room_ready}
+use Rattle.casper_hub.proofs.Grants.{Made, granting_made, fronted_held, room_ready, cap_ready}
 use Rattle.casper_trail.specs.TrailView.{entry_count}
 use Rattle.casper_hub.proofs.Ready.{Ready, GivesRights, ready_for, installed_sound, missing_held, missing_free, wanted_held, covers_given, rights_given}
 
@@ -63,16 +70,16 @@ returns-in_err-install-clause-still c =
 pub open-requires-clause-cap : goal.open-requires-clause-cap
 open-requires-clause-cap c =
     cap_for c.args.who (hub_of c.self.inside.trail.items c.self.inside.limit c.self.inside.clients c.self.inside.pages) c.args.cache.now c.requires.client c.self.invariant.0
-    (subst (λ (h : HubView). Owns h c.args.cache.now) (sym c.self.view_is) c.requires.owns)
+    (subst (λ (h : HubView). Owns h c.args.cache.now) (sym c.self.view_is) c.requires.owns) (subst (λ (h : HubView). fallen_in h c.args.who ≡ None) (sym c.self.view_is) c.requires.up)
     ∙ sym (ap (λ (o : cache.Own). o.cap) c.in_ok-install.ensures.ok)
 
 pub grant-requires-clause-limit : goal.grant-requires-clause-limit
 grant-requires-clause-limit c =
-    subst (λ n. entry_count c.open.new.trail.items + length c.as_slice-missing.result.now ≤ n) (sym (c.open.ensures.limit ∙ c.reserve.ensures.limit ∙ c.self.invariant.2))
+    subst (λ n. entry_count c.open.new.trail.items + length c.as_slice-missing.result.now ≤ n) (sym (c.open.ensures.limit ∙ c.reserve.ensures.limit ∙ c.self.invariant.2.limit))
     (room_ready (hub_of c.self.inside.trail.items c.self.inside.limit c.self.inside.clients c.self.inside.pages) c.args.cache.now c.args.wants.now c.as_slice-missing.result.now (hub_of c.open.new.trail.items c.self.inside.limit c.open.new.clients c.open.new.pages) c.open.new.cache
     (ready_for c.args.who c.self.inside.limit c.args.self.now c.args.cache.now c.install.new.cache c.open.new.cache c.args.wants.now c.args.missing.now c.as_slice-missing.result.now c.reserve.new.self.items c.self.inside.trail.items
     c.self.inside.clients c.self.inside.pages (hub_of c.open.new.trail.items c.self.inside.limit c.open.new.clients c.open.new.pages)
-    c.self.view_is c.requires.client c.self.invariant.0 c.self.invariant.1 c.requires.owns c.requires.grants c.as_slice-missing.ensures.wants c.reserve.ensures.items c.in_ok-install.ensures.ok c.open.ensures.opens))
+    c.self.view_is c.requires.client c.self.invariant.0 c.self.invariant.1 c.requires.owns c.requires.up c.requires.grants c.as_slice-missing.ensures.wants c.reserve.ensures.items c.in_ok-install.ensures.ok c.open.ensures.opens))
 
 pub install-requires-clause-pages : goal.install-requires-clause-pages
 install-requires-clause-pages c want inside =
@@ -93,7 +100,8 @@ open-requires-clause-covers c =
     (subst (λ who. Covers who c.self.inside.pages (with_pages c.self.inside.pages c.args.cache.now.held c.as_slice-missing.result.now)) c.requires.client
     (begins_installed (hub_of c.self.inside.trail.items c.self.inside.limit c.self.inside.clients c.self.inside.pages) c.args.cache.now c.as_slice-missing.result.now
     (whole (hub_of c.self.inside.trail.items c.self.inside.limit c.self.inside.clients c.self.inside.pages) c.self.invariant.0 c.self.invariant.1)
-    (owning (hub_of c.self.inside.trail.items c.self.inside.limit c.self.inside.clients c.self.inside.pages) c.args.cache.now c.self.invariant.0 (subst (λ (h : HubView). Owns h c.args.cache.now) (sym c.self.view_is) c.requires.owns))).covers)
+    (owning_for c.args.who (hub_of c.self.inside.trail.items c.self.inside.limit c.self.inside.clients c.self.inside.pages) c.args.cache.now c.requires.client c.self.invariant.0 (subst (λ (h : HubView). Owns h c.args.cache.now) (sym c.self.view_is) c.requires.owns)
+    (subst (λ (h : HubView). fallen_in h c.args.who ≡ None) (sym c.self.view_is) c.requires.up))).covers)
 
 pub grant-requires-clause-pages : goal.grant-requires-clause-pages
 grant-requires-clause-pages c want inside =
@@ -115,7 +123,7 @@ grant-requires-clause-held c want inside =
     missing_held (hub_of c.self.inside.trail.items c.self.inside.limit c.self.inside.clients c.self.inside.pages) c.args.cache.now c.args.wants.now c.as_slice-missing.result.now (hub_of c.open.new.trail.items c.self.inside.limit c.open.new.clients c.open.new.pages) c.open.new.cache
     (ready_for c.args.who c.self.inside.limit c.args.self.now c.args.cache.now c.install.new.cache c.open.new.cache c.args.wants.now c.args.missing.now c.as_slice-missing.result.now c.reserve.new.self.items c.self.inside.trail.items
     c.self.inside.clients c.self.inside.pages (hub_of c.open.new.trail.items c.self.inside.limit c.open.new.clients c.open.new.pages)
-    c.self.view_is c.requires.client c.self.invariant.0 c.self.invariant.1 c.requires.owns c.requires.grants c.as_slice-missing.ensures.wants c.reserve.ensures.items c.in_ok-install.ensures.ok c.open.ensures.opens) want inside
+    c.self.view_is c.requires.client c.self.invariant.0 c.self.invariant.1 c.requires.owns c.requires.up c.requires.grants c.as_slice-missing.ensures.wants c.reserve.ensures.items c.in_ok-install.ensures.ok c.open.ensures.opens) want inside
 
 pub grant-requires-clause-free : goal.grant-requires-clause-free
 grant-requires-clause-free c want inside =
@@ -123,7 +131,7 @@ grant-requires-clause-free c want inside =
     (missing_free (hub_of c.self.inside.trail.items c.self.inside.limit c.self.inside.clients c.self.inside.pages) c.args.cache.now c.args.wants.now c.as_slice-missing.result.now (hub_of c.open.new.trail.items c.self.inside.limit c.open.new.clients c.open.new.pages) c.open.new.cache
     (ready_for c.args.who c.self.inside.limit c.args.self.now c.args.cache.now c.install.new.cache c.open.new.cache c.args.wants.now c.args.missing.now c.as_slice-missing.result.now c.reserve.new.self.items c.self.inside.trail.items
     c.self.inside.clients c.self.inside.pages (hub_of c.open.new.trail.items c.self.inside.limit c.open.new.clients c.open.new.pages)
-    c.self.view_is c.requires.client c.self.invariant.0 c.self.invariant.1 c.requires.owns c.requires.grants c.as_slice-missing.ensures.wants c.reserve.ensures.items c.in_ok-install.ensures.ok c.open.ensures.opens) want inside)
+    c.self.view_is c.requires.client c.self.invariant.0 c.self.invariant.1 c.requires.owns c.requires.up c.requires.grants c.as_slice-missing.ensures.wants c.reserve.ensures.items c.in_ok-install.ensures.ok c.open.ensures.opens) want inside)
 
 pub bring_to_front-requires : goal.bring_to_front-requires
 bring_to_front-requires c want inside =
@@ -132,7 +140,7 @@ bring_to_front-requires c want inside =
     (wanted_held (hub_of c.self.inside.trail.items c.self.inside.limit c.self.inside.clients c.self.inside.pages) c.args.cache.now c.args.wants.now c.as_slice-missing.result.now (hub_of c.open.new.trail.items c.self.inside.limit c.open.new.clients c.open.new.pages) c.open.new.cache
     (ready_for c.args.who c.self.inside.limit c.args.self.now c.args.cache.now c.install.new.cache c.open.new.cache c.args.wants.now c.args.missing.now c.as_slice-missing.result.now c.reserve.new.self.items c.self.inside.trail.items
     c.self.inside.clients c.self.inside.pages (hub_of c.open.new.trail.items c.self.inside.limit c.open.new.clients c.open.new.pages)
-    c.self.view_is c.requires.client c.self.invariant.0 c.self.invariant.1 c.requires.owns c.requires.grants c.as_slice-missing.ensures.wants c.reserve.ensures.items c.in_ok-install.ensures.ok c.open.ensures.opens) want inside))
+    c.self.view_is c.requires.client c.self.invariant.0 c.self.invariant.1 c.requires.owns c.requires.up c.requires.grants c.as_slice-missing.ensures.wants c.reserve.ensures.items c.in_ok-install.ensures.ok c.open.ensures.opens) want inside))
 
 pub shrink-requires-clause-covers : goal.shrink-requires-clause-covers
 shrink-requires-clause-covers c =
@@ -141,7 +149,7 @@ shrink-requires-clause-covers c =
     (covers_given (hub_of c.self.inside.trail.items c.self.inside.limit c.self.inside.clients c.self.inside.pages) c.args.cache.now c.args.wants.now c.as_slice-missing.result.now (hub_of c.open.new.trail.items c.self.inside.limit c.open.new.clients c.open.new.pages) c.open.new.cache c.grant.new.pages
     (ready_for c.args.who c.self.inside.limit c.args.self.now c.args.cache.now c.install.new.cache c.open.new.cache c.args.wants.now c.args.missing.now c.as_slice-missing.result.now c.reserve.new.self.items c.self.inside.trail.items
     c.self.inside.clients c.self.inside.pages (hub_of c.open.new.trail.items c.self.inside.limit c.open.new.clients c.open.new.pages)
-    c.self.view_is c.requires.client c.self.invariant.0 c.self.invariant.1 c.requires.owns c.requires.grants c.as_slice-missing.ensures.wants c.reserve.ensures.items c.in_ok-install.ensures.ok c.open.ensures.opens)
+    c.self.view_is c.requires.client c.self.invariant.0 c.self.invariant.1 c.requires.owns c.requires.up c.requires.grants c.as_slice-missing.ensures.wants c.reserve.ensures.items c.in_ok-install.ensures.ok c.open.ensures.opens)
     (subst (λ (w : ℕ). GivesRights w c.as_slice-missing.result.now c.open.new.pages c.grant.new.pages) (sym c.requires.client)
     record { frames = c.grant.ensures.frames; count = c.grant.ensures.count; rights = c.grant.ensures.rights; holders = c.grant.ensures.holders c.open.ensures.opens.gives.holders })))
 
@@ -151,7 +159,7 @@ shrink-requires-clause-all c page =
     (rights_given (hub_of c.self.inside.trail.items c.self.inside.limit c.self.inside.clients c.self.inside.pages) c.args.cache.now c.args.wants.now c.as_slice-missing.result.now (hub_of c.open.new.trail.items c.self.inside.limit c.open.new.clients c.open.new.pages) c.open.new.cache c.grant.new.pages
     (ready_for c.args.who c.self.inside.limit c.args.self.now c.args.cache.now c.install.new.cache c.open.new.cache c.args.wants.now c.args.missing.now c.as_slice-missing.result.now c.reserve.new.self.items c.self.inside.trail.items
     c.self.inside.clients c.self.inside.pages (hub_of c.open.new.trail.items c.self.inside.limit c.open.new.clients c.open.new.pages)
-    c.self.view_is c.requires.client c.self.invariant.0 c.self.invariant.1 c.requires.owns c.requires.grants c.as_slice-missing.ensures.wants c.reserve.ensures.items c.in_ok-install.ensures.ok c.open.ensures.opens)
+    c.self.view_is c.requires.client c.self.invariant.0 c.self.invariant.1 c.requires.owns c.requires.up c.requires.grants c.as_slice-missing.ensures.wants c.reserve.ensures.items c.in_ok-install.ensures.ok c.open.ensures.opens)
     (subst (λ (w : ℕ). GivesRights w c.as_slice-missing.result.now c.open.new.pages c.grant.new.pages) (sym c.requires.client)
     record { frames = c.grant.ensures.frames; count = c.grant.ensures.count; rights = c.grant.ensures.rights; holders = c.grant.ensures.holders c.open.ensures.opens.gives.holders }) page
     ∙ sym (ap (right_of page) (fronted_held c.open.new.cache c.grant.new.cache c.allow.new.self c.bring_to_front.new.cache c.as_slice-missing.result.now c.args.wants.now (c.cap.result - length c.as_slice-missing.result.now) c.grant.ensures.cache c.allow.ensures.allowed c.bring_to_front.ensures)))
@@ -185,7 +193,7 @@ ready : (c : goal.After-shrink) → Ready (hub_of c.self.inside.trail.items c.se
 ready c =
     ready_for c.args.who c.self.inside.limit c.args.self.now c.args.cache.now c.install.new.cache c.open.new.cache c.args.wants.now c.args.missing.now c.as_slice-missing.result.now c.reserve.new.self.items c.self.inside.trail.items
     c.self.inside.clients c.self.inside.pages (hub_of c.open.new.trail.items c.self.inside.limit c.open.new.clients c.open.new.pages)
-    c.self.view_is c.requires.client c.self.invariant.0 c.self.invariant.1 c.requires.owns c.requires.grants c.as_slice-missing.ensures.wants c.reserve.ensures.items c.in_ok-install.ensures.ok c.open.ensures.opens
+    c.self.view_is c.requires.client c.self.invariant.0 c.self.invariant.1 c.requires.owns c.requires.up c.requires.grants c.as_slice-missing.ensures.wants c.reserve.ensures.items c.in_ok-install.ensures.ok c.open.ensures.opens
 
 -- the hub as it was, and after the turn
 abbrev before : goal.After-shrink → HubView
@@ -233,7 +241,17 @@ pub invariant_of-self-2 : goal.invariant_of-self-2
 invariant_of-self-2 c = (
   sound_after c,
   granted_plain c.args.self.now c.args.cache.now c.args.wants.now c.args.missing.now (after c) c.shrink.new.cache (turned c),
-  c.grant.ensures.limit ∙ c.open.ensures.limit ∙ c.reserve.ensures.limit ∙ c.self.invariant.2,
+  record {
+    limit = c.grant.ensures.limit ∙ c.open.ensures.limit ∙ c.reserve.ensures.limit ∙ c.self.invariant.2.limit;
+    associations = subst (AreAssociationsOf c.touch_each.new.self) (sym c.grant.ensures.trail)
+        (c.touch_each.ensures.trail c.open.new.trail.items c.open.ensures.clients c.open.ensures.associations);
+    pages = c.touch_each.ensures.pages ∙ c.open.ensures.pages_stay ∙ c.self.invariant.2.pages
+        ∙ sym (c.shrink.ensures.gives.rights_count ∙ c.grant.ensures.count ∙ c.open.ensures.opens.gives.rights_count);
+    room = room_after c.set_asks.new.self c.reserve.new.self.room c.open.new.trail.room (length c.args.cache.now.pending) (length c.as_slice-missing.result.now)
+        (length c.as_slice.result.now) (sound_after c).formed.places c.in_ok-reserve.ensures.ok
+        (c.open.ensures.room ∙ ap (λ (o : cache.Own). c.open.new.trail.room + length o.pending) c.in_ok-install.ensures.ok)
+        (ap length (c.as_slice.ensures ∙ c.pending.ensures)) c.grant.new.trail.room c.grant.ensures.room;
+  },
 )
 
 pub returns-clause-turn : goal.returns-clause-turn
@@ -263,3 +281,31 @@ returns-clause-still c = keeps_still (acquiring c) c.args.self.now c.args.cache.
 
 pub returns-clause-sound : goal.returns-clause-sound
 returns-clause-sound c = sound_after c
+
+pub open-requires-clause-calls : goal.open-requires-clause-calls
+open-requires-clause-calls c =
+    subst (λ (own : cache.Own). MayBeRecorded c.reserve.new.self.items c.self.inside.pages c.args.who own.pending) (sym c.in_ok-install.ensures.ok)
+    (subst (λ (items : List Item). MayBeRecorded items c.self.inside.pages c.args.who c.args.cache.now.pending) (sym c.reserve.ensures.items)
+    (may_record_for c.args.who (hub_of c.self.inside.trail.items c.self.inside.limit c.self.inside.clients c.self.inside.pages) c.args.cache.now c.requires.client
+    (whole (hub_of c.self.inside.trail.items c.self.inside.limit c.self.inside.clients c.self.inside.pages) c.self.invariant.0 c.self.invariant.1)
+    (owning_for c.args.who (hub_of c.self.inside.trail.items c.self.inside.limit c.self.inside.clients c.self.inside.pages) c.args.cache.now c.requires.client c.self.invariant.0
+    (subst (λ (h : HubView). Owns h c.args.cache.now) (sym c.self.view_is) c.requires.owns) (subst (λ (h : HubView). fallen_in h c.args.who ≡ None) (sym c.self.view_is) c.requires.up))))
+
+pub touch_each-requires : goal.touch_each-requires
+touch_each-requires c = record {
+  within = λ want inside.
+      subst (λ n. want.page < n) (sym (c.open.ensures.pages_stay ∙ c.self.invariant.2.pages))
+      (subst (λ (h : HubView). want.page < page_count h) (sym c.self.view_is)
+      (c.requires.range want
+      (contains_passing (is_missing c.args.self.now.pages c.args.self.now.clients c.args.who) c.args.wants.now want
+      (subst (λ (l : List Want). Contains l want) (c.as_slice-missing.ensures.wants ∙ c.requires.grants.missing_is) inside))));
+}
+
+pub overflow_sub-cap : goal.overflow_sub-cap
+overflow_sub-cap c =
+    subst (λ n. length c.as_slice-missing.result.now ≤ n)
+    (ap (cap_in (hub_of c.open.new.trail.items c.self.inside.limit c.open.new.clients c.open.new.pages)) c.requires.client ∙ sym c.cap.ensures)
+    (cap_ready (hub_of c.self.inside.trail.items c.self.inside.limit c.self.inside.clients c.self.inside.pages) c.args.cache.now c.args.wants.now c.as_slice-missing.result.now (hub_of c.open.new.trail.items c.self.inside.limit c.open.new.clients c.open.new.pages) c.open.new.cache
+    (ready_for c.args.who c.self.inside.limit c.args.self.now c.args.cache.now c.install.new.cache c.open.new.cache c.args.wants.now c.args.missing.now c.as_slice-missing.result.now c.reserve.new.self.items c.self.inside.trail.items
+    c.self.inside.clients c.self.inside.pages (hub_of c.open.new.trail.items c.self.inside.limit c.open.new.clients c.open.new.pages)
+    c.self.view_is c.requires.client c.self.invariant.0 c.self.invariant.1 c.requires.owns c.requires.up c.requires.grants c.as_slice-missing.ensures.wants c.reserve.ensures.items c.in_ok-install.ensures.ok c.open.ensures.opens))

@@ -1,8 +1,12 @@
-use Rattle.std.proofs.Common.{◌≡◌, ◌≢◌, ◌∙◌, List, false, min, sym, ap, subst, arith}
+use Rattle.std.proofs.Common.{◌≡◌, ◌≢◌, ◌≤◌, ◌∙◌, List, length, length-set, false, min, sym, ap, subst, arith}
 use Rattle.std.specs.Prelude.{Option, Ok, Err, is_some}
 use Rattle.casper_words.specs.Crew.{IsClient}
 use Rattle.casper_model.specs.Room.{most_cap}
 use Rattle.casper_model.specs.declared.reply.JoinRefusal.TheVariants as refusal
+use Rattle.casper_trail.specs.declared.item.Item.{Item}
+use Rattle.casper_assoc.specs.TrailAssociations.{AreAssociationsOf}
+use Rattle.casper_hub.proofs.KeptUp.{room_for_all, ok_holds}
+use Rattle.casper_hub.proofs.ForClient.{kept_reserved, nothing_reserved}
 use Rattle.casper_hub.specs.HubView.{HubView, ClientView, client_in, cap_in, free_in}
 use Rattle.casper_hub.specs.HubFields.{hub_of}
 use Rattle.casper_hub.specs.GoesOn.{KeepsClient, CommitsNothing}
@@ -59,18 +63,37 @@ room c none = c.if-free-eq0.false (c.free_room-free.ensures ∙ none)
 capped : (c : goal.After-join) → c.min.result ≡ min most_cap (free_in (before c))
 capped c = c.min.ensures ∙ ap (min 4100) c.free_room-free.ensures
 
+pub returns-then-is_err-clause-others : goal.returns-then-is_err-clause-others
+returns-then-is_err-clause-others c other apart =
+    kept_reserved c.args.self.now c.self.inside.limit c.reserve.new.self.items c.self.inside.trail.items c.self.inside.clients c.self.inside.pages c.self.view_is c.reserve.ensures.items other
+
+pub returns-then-is_err-clause-still : goal.returns-then-is_err-clause-still
+returns-then-is_err-clause-still c =
+    nothing_reserved c.args.self.now c.self.inside.limit c.reserve.new.self.items c.self.inside.trail.items c.self.inside.clients c.self.inside.pages c.self.view_is c.reserve.ensures.items
+
+-- there is room for the marks
+reserved : (c : goal.After-join) → 33 ≤ c.reserve.new.self.room
+reserved c = ok_holds c.reserve.result (33 ≤ c.reserve.new.self.room) (sym c.is_err.ensures.value ∙ c.if-is_err.false) c.reserve.ensures.ok
+
 -- what holds after the join of the client holds after the function
 behind : (c : goal.After-join) (P : HubView → HubView → Type 0) → P (before c) (with_client (before c) c.args.who c.min.result)
-    → P c.args.self.now (hub_of c.self.inside.trail.items c.self.inside.limit c.join.new.self c.self.inside.pages)
+    → P c.args.self.now (hub_of c.reserve.new.self.items c.self.inside.limit c.join.new.self c.self.inside.pages)
 behind c P is =
-    subst (λ (h : HubView). P h (hub_of c.self.inside.trail.items c.self.inside.limit c.join.new.self c.self.inside.pages)) c.self.view_is
-    (subst (λ (places : List (Option ClientView)). P (before c) (hub_of c.self.inside.trail.items c.self.inside.limit places c.self.inside.pages)) (sym c.join.ensures) is)
+    subst (λ (h : HubView). P h (hub_of c.reserve.new.self.items c.self.inside.limit c.join.new.self c.self.inside.pages)) c.self.view_is
+    (subst (λ (items : List Item). P (before c) (hub_of items c.self.inside.limit c.join.new.self c.self.inside.pages)) (sym c.reserve.ensures.items)
+    (subst (λ (places : List (Option ClientView)). P (before c) (hub_of c.self.inside.trail.items c.self.inside.limit places c.self.inside.pages)) (sym c.join.ensures) is))
 
-pub invariant_of-self : goal.invariant_of-self
-invariant_of-self c = (
+pub invariant_of-self-2 : goal.invariant_of-self-2
+invariant_of-self-2 c = (
   behind c (λ h after. IsSound after) (joined_sound (before c) c.args.who c.min.result (whole_before c) (client c) (gone c) (room c) (capped c)),
   behind c (λ h after. IsPlain after) (joined_plain (before c) c.args.who c.min.result (whole_before c) (client c)),
-  c.self.invariant.2,
+  record {
+    limit = c.reserve.ensures.limit ∙ c.self.invariant.2.limit;
+    associations = subst (AreAssociationsOf c.self.inside.associations) (sym c.reserve.ensures.items) c.self.invariant.2.associations;
+    pages = c.self.invariant.2.pages;
+    room = room_for_all c.join.new.self c.reserve.new.self.room
+        (ap length c.join.ensures ∙ length-set c.self.inside.clients c.args.who _ ∙ (whole_before c).places) (reserved c);
+  },
 )
 
 pub returns-clause-turn : goal.returns-clause-turn
@@ -93,7 +116,7 @@ returns-clause-owned c capacity least most =
     (joined_owned (before c) c.args.who c.min.result (whole_before c) (client c) (gone c) (room c) (capped c) capacity least most)
 
 pub returns-clause-frames : goal.returns-clause-frames
-returns-clause-frames c base frames = subst (λ (h : HubView). FramesAreRight base h) (sym c.self.view_is) frames
+returns-clause-frames c base frames = behind c (λ h after. FramesAreRight base h → FramesAreRight base after) (λ right. right) frames
 
 pub returns-clause-sound : goal.returns-clause-sound
-returns-clause-sound c = (invariant_of-self c).0
+returns-clause-sound c = (invariant_of-self-2 c).0

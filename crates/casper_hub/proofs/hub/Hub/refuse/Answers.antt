@@ -1,4 +1,5 @@
-use Rattle.std.proofs.Common.{◌∙◌, ◌++◌, ℕ, List, sym, ap, subst}
+use Rattle.std.proofs.Common.{◌≡◌, ◌≤◌, ◌+◌, ◌∙◌, ◌++◌, ℕ, List, length, sym, ap, subst, arith}
+use Rattle.std.specs.Prelude.{None}
 use Rattle.casper_words.specs.declared.page.Want.{Want}
 use Rattle.casper_trail.specs.declared.item.Item.{Item}
 use Rattle.casper_trail.specs.Parts.{as_items}
@@ -11,7 +12,8 @@ use Rattle.casper_model.specs.Shared.{Shared}
 use Rattle.casper_turns.specs.Good.{IsGoodShared}
 use Rattle.casper_turns.specs.Kept.{KeptByTurn}
 use Rattle.casper_turns.specs.TurnLaws.{IsTurn as MachineTurn}
-use Rattle.casper_hub.specs.HubView.{HubView, cap_in}
+use Rattle.casper_hub.specs.HubView.{HubView, fallen_in}
+use Rattle.casper_hub.specs.Keeping.{MayBeRecorded}
 use Rattle.casper_hub.specs.HubFields.{hub_of}
 use Rattle.casper_hub.specs.Owned.{own_of, Owns}
 use Rattle.casper_hub.specs.Shows.{Shows}
@@ -20,11 +22,12 @@ use Rattle.casper_hub.specs.Stages.{Opens, Refuses}
 use Rattle.casper_hub.specs.Turns.{IsTurn, IsRefused}
 use Rattle.casper_hub.specs.Words.{FramesAreRight}
 use Rattle.casper_hub.proofs.AcquiredTurns.{refused_turn}
-use Rattle.casper_hub.proofs.ForClient.{covers_for, opens_for, refuses_for, kept_reserved, nothing_reserved}
+use Rattle.casper_hub.proofs.KeptUp.{room_after, may_record_for}
+use Rattle.casper_hub.proofs.ForClient.{owning_for, cap_for, covers_for, opens_for, refuses_for, kept_reserved, nothing_reserved}
 use Rattle.casper_hub.proofs.Opened.{opened_cache, opened_few}
 use Rattle.casper_hub.proofs.Refused.{refused_opened, refused_formed, refused_plain, refused_live, refused_frames, refused_words}
 use Rattle.casper_hub.proofs.Transport.{kept_by, stands_behind, keeps_others, keeps_still, owns_behind}
-use Rattle.casper_hub.proofs.Whole.{Whole, Owning, whole_at, owning}
+use Rattle.casper_hub.proofs.Whole.{Whole, Owning, whole, whole_at, owning}
 use Rattle.casper_hub.proofs.hub.Hub.refuse.Goals as goal
 
 pub returns-in_err-reserve-clause-others : goal.returns-in_err-reserve-clause-others
@@ -38,12 +41,12 @@ returns-in_err-reserve-clause-still c =
 pub open-requires-clause-covers : goal.open-requires-clause-covers
 open-requires-clause-covers c =
     covers_for c.args.who (hub_of c.self.inside.trail.items c.self.inside.limit c.self.inside.clients c.self.inside.pages) c.args.cache.now c.requires.client c.self.invariant.0 c.self.invariant.1
-    (subst (λ (h : HubView). Owns h c.args.cache.now) (sym c.self.view_is) c.requires.owns)
+    (subst (λ (h : HubView). Owns h c.args.cache.now) (sym c.self.view_is) c.requires.owns) (subst (λ (h : HubView). fallen_in h c.args.who ≡ None) (sym c.self.view_is) c.requires.up)
 
 pub open-requires-clause-cap : goal.open-requires-clause-cap
 open-requires-clause-cap c =
-    ap (λ (who : ℕ). cap_in (hub_of c.self.inside.trail.items c.self.inside.limit c.self.inside.clients c.self.inside.pages) who) (sym c.requires.client)
-    ∙ (owning (hub_of c.self.inside.trail.items c.self.inside.limit c.self.inside.clients c.self.inside.pages) c.args.cache.now c.self.invariant.0 (subst (λ (h : HubView). Owns h c.args.cache.now) (sym c.self.view_is) c.requires.owns)).cap
+    cap_for c.args.who (hub_of c.self.inside.trail.items c.self.inside.limit c.self.inside.clients c.self.inside.pages) c.args.cache.now c.requires.client c.self.invariant.0
+    (subst (λ (h : HubView). Owns h c.args.cache.now) (sym c.self.view_is) c.requires.owns) (subst (λ (h : HubView). fallen_in h c.args.who ≡ None) (sym c.self.view_is) c.requires.up)
 
 pub returns-in_err-reserve-clause-frames : goal.returns-in_err-reserve-clause-frames
 returns-in_err-reserve-clause-frames c base frames words =
@@ -55,7 +58,7 @@ whole_before : (c : goal.After-set_asks) → Whole c.args.self.now
 whole_before c = whole_at (hub_of c.self.inside.trail.items c.self.inside.limit c.self.inside.clients c.self.inside.pages) c.args.self.now c.self.view_is c.self.invariant.0 c.self.invariant.1
 
 owning_before : (c : goal.After-set_asks) → Owning c.args.self.now c.args.cache.now
-owning_before c = owning c.args.self.now c.args.cache.now (whole_before c).sound c.requires.owns
+owning_before c = owning c.args.self.now c.args.cache.now (whole_before c).sound c.requires.owns (ap (fallen_in c.args.self.now) c.requires.client ∙ c.requires.up)
 
 -- the hub after the turn
 abbrev after : goal.After-set_asks → HubView
@@ -97,11 +100,20 @@ sound_after c = record {
   stands = stands_behind (acquiring c) c.args.self.now c.args.cache.now (after c) (this c).shows (keeps c) (whole_before c).sound.stands;
 }
 
+reserved_for : (c : goal.After-set_asks) → length c.as_slice.result.now + 0 + 33 ≤ c.reserve.new.self.room
+reserved_for c = let reserved = c.in_ok-reserve.ensures.ok in omega (arith, reserved)
+
 pub invariant_of-self-2 : goal.invariant_of-self-2
 invariant_of-self-2 c = (
   sound_after c,
   refused_plain c.args.asks c.args.self.now c.args.cache.now (after c) c.open.new.cache (whole_before c) (owning_before c) (refuses c),
-  c.open.ensures.limit ∙ c.reserve.ensures.limit ∙ c.self.invariant.2,
+  record {
+    limit = c.open.ensures.limit ∙ c.reserve.ensures.limit ∙ c.self.invariant.2.limit;
+    associations = c.open.ensures.associations;
+    pages = c.open.ensures.pages_stay ∙ c.self.invariant.2.pages ∙ sym c.open.ensures.opens.gives.rights_count;
+    room = room_after c.set_asks.new.self c.reserve.new.self.room c.open.new.trail.room (length c.args.cache.now.pending) 0 (length c.as_slice.result.now)
+        (sound_after c).formed.places (reserved_for c) c.open.ensures.room (ap length (c.as_slice.ensures ∙ c.pending.ensures)) c.open.new.trail.room (omega arith);
+  },
 )
 
 pub returns-clause-turn : goal.returns-clause-turn
@@ -136,3 +148,11 @@ returns-clause-still c = keeps_still (acquiring c) c.args.self.now c.args.cache.
 
 pub returns-clause-sound : goal.returns-clause-sound
 returns-clause-sound c = sound_after c
+
+pub open-requires-clause-calls : goal.open-requires-clause-calls
+open-requires-clause-calls c =
+    subst (λ (items : List Item). MayBeRecorded items c.self.inside.pages c.args.who c.args.cache.now.pending) (sym c.reserve.ensures.items)
+    (may_record_for c.args.who (hub_of c.self.inside.trail.items c.self.inside.limit c.self.inside.clients c.self.inside.pages) c.args.cache.now c.requires.client
+    (whole (hub_of c.self.inside.trail.items c.self.inside.limit c.self.inside.clients c.self.inside.pages) c.self.invariant.0 c.self.invariant.1)
+    (owning_for c.args.who (hub_of c.self.inside.trail.items c.self.inside.limit c.self.inside.clients c.self.inside.pages) c.args.cache.now c.requires.client c.self.invariant.0
+    (subst (λ (h : HubView). Owns h c.args.cache.now) (sym c.self.view_is) c.requires.owns) (subst (λ (h : HubView). fallen_in h c.args.who ≡ None) (sym c.self.view_is) c.requires.up)))

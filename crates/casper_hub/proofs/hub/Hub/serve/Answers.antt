@@ -1,21 +1,25 @@
-use Rattle.std.proofs.Common.{◌∙◌, sym, subst}
+use Rattle.std.proofs.Common.{◌≡◌, ◌≤◌, ◌∙◌, List, length, sym, ap, subst, arith}
+use Rattle.std.specs.Prelude.{None}
+use Rattle.casper_trail.specs.declared.item.Item.{Item}
 use Rattle.casper_model.specs.declared.reply.Served.TheVariants as served
 use Rattle.casper_model.specs.Leave.{serve}
 use Rattle.casper_model.specs.Shared.{Shared}
 use Rattle.casper_turns.specs.Good.{IsGoodShared}
 use Rattle.casper_turns.specs.Kept.{KeptByTurn}
 use Rattle.casper_turns.specs.TurnLaws.{IsTurn as MachineTurn}
-use Rattle.casper_hub.specs.HubView.{HubView}
+use Rattle.casper_hub.specs.HubView.{HubView, fallen_in}
+use Rattle.casper_hub.specs.Keeping.{MayBeRecorded}
 use Rattle.casper_hub.specs.HubFields.{hub_of}
 use Rattle.casper_hub.specs.Owned.{own_of, Owns}
 use Rattle.casper_hub.specs.Shows.{Shows}
 use Rattle.casper_hub.specs.Stages.{Opens}
 use Rattle.casper_hub.specs.Turns.{IsTurn}
-use Rattle.casper_hub.proofs.ForClient.{covers_for, opens_for, cap_for, kept_reserved, nothing_reserved}
+use Rattle.casper_hub.proofs.KeptUp.{room_for_all, may_record_for, up_inside}
+use Rattle.casper_hub.proofs.ForClient.{owning_for, covers_for, opens_for, cap_for, kept_reserved, nothing_reserved}
 use Rattle.casper_hub.proofs.Opened.{Begins, begins_owned, opened_sound, opened_live_own, opened_cache, opened_few, opened_frames, opened_words}
 use Rattle.casper_hub.proofs.ServedTurns.{serve_turn}
 use Rattle.casper_hub.proofs.Transport.{kept_by, keeps_others, keeps_still, owns_behind}
-use Rattle.casper_hub.proofs.Whole.{Whole, Owning, whole_at, owning}
+use Rattle.casper_hub.proofs.Whole.{Whole, Owning, whole, whole_at, owning}
 use Rattle.casper_hub.proofs.hub.Hub.serve.Goals as goal
 
 pub returns-in_err-reserve-clause-others : goal.returns-in_err-reserve-clause-others
@@ -29,19 +33,22 @@ returns-in_err-reserve-clause-still c =
 pub open-requires-clause-cap : goal.open-requires-clause-cap
 open-requires-clause-cap c =
     cap_for c.args.who (hub_of c.self.inside.trail.items c.self.inside.limit c.self.inside.clients c.self.inside.pages) c.args.cache.now c.requires.client c.self.invariant.0
-    (subst (λ (h : HubView). Owns h c.args.cache.now) (sym c.self.view_is) c.requires.owns)
+    (subst (λ (h : HubView). Owns h c.args.cache.now) (sym c.self.view_is) c.requires.owns) (up_inside c.self.inside.clients c.args.who c.fall.result c.fall.ensures c.in_default.not-Some)
 
 pub open-requires-clause-covers : goal.open-requires-clause-covers
 open-requires-clause-covers c =
     covers_for c.args.who (hub_of c.self.inside.trail.items c.self.inside.limit c.self.inside.clients c.self.inside.pages) c.args.cache.now c.requires.client c.self.invariant.0 c.self.invariant.1
-    (subst (λ (h : HubView). Owns h c.args.cache.now) (sym c.self.view_is) c.requires.owns)
+    (subst (λ (h : HubView). Owns h c.args.cache.now) (sym c.self.view_is) c.requires.owns) (up_inside c.self.inside.clients c.args.who c.fall.result c.fall.ensures c.in_default.not-Some)
 
 -- the hub as it was
 whole_before : (c : goal.After-open) → Whole c.args.self.now
 whole_before c = whole_at (hub_of c.self.inside.trail.items c.self.inside.limit c.self.inside.clients c.self.inside.pages) c.args.self.now c.self.view_is c.self.invariant.0 c.self.invariant.1
 
 owning_before : (c : goal.After-open) → Owning c.args.self.now c.args.cache.now
-owning_before c = owning c.args.self.now c.args.cache.now (whole_before c).sound c.requires.owns
+owning_before c =
+    owning c.args.self.now c.args.cache.now (whole_before c).sound c.requires.owns
+    (ap (fallen_in c.args.self.now) c.requires.client
+    ∙ subst (λ (h : HubView). fallen_in h c.args.who ≡ None) c.self.view_is (up_inside c.self.inside.clients c.args.who c.fall.result c.fall.ensures c.in_default.not-Some))
 
 begins : (c : goal.After-open) → Begins c.args.cache.now.client c.args.self.now c.args.cache.now
 begins c = begins_owned c.args.self.now c.args.cache.now (whole_before c) (owning_before c)
@@ -67,8 +74,29 @@ keeps : (c : goal.After-open) (shared : Shared) → Shows shared c.args.self.now
     → KeptByTurn shared (own_of c.args.cache.now) (serve shared (own_of c.args.cache.now)).shared (serve shared (own_of c.args.cache.now)).own
 keeps c = kept_by serve c.args.self.now c.args.cache.now c.requires.owns (λ shared one live. MachineTurn.serving live)
 
+room_left : (c : goal.After-open) → 33 ≤ c.open.new.trail.room
+room_left c =
+    let reserved = c.in_ok-reserve.ensures.ok in
+    let room = c.open.ensures.room in
+    let pending : length c.as_slice.result.now ≡ length c.args.cache.now.pending = ap length (c.as_slice.ensures ∙ c.pending.ensures) in
+    omega (arith, reserved, room, pending)
+
+pub open-requires-clause-calls : goal.open-requires-clause-calls
+open-requires-clause-calls c =
+    subst (λ (items : List Item). MayBeRecorded items c.self.inside.pages c.args.who c.args.cache.now.pending) (sym c.reserve.ensures.items)
+    (may_record_for c.args.who (hub_of c.self.inside.trail.items c.self.inside.limit c.self.inside.clients c.self.inside.pages) c.args.cache.now c.requires.client
+    (whole (hub_of c.self.inside.trail.items c.self.inside.limit c.self.inside.clients c.self.inside.pages) c.self.invariant.0 c.self.invariant.1)
+    (owning_for c.args.who (hub_of c.self.inside.trail.items c.self.inside.limit c.self.inside.clients c.self.inside.pages) c.args.cache.now c.requires.client c.self.invariant.0
+    (subst (λ (h : HubView). Owns h c.args.cache.now) (sym c.self.view_is) c.requires.owns)
+    (up_inside c.self.inside.clients c.args.who c.fall.result c.fall.ensures c.in_default.not-Some)))
+
 pub invariant_of-self-2 : goal.invariant_of-self-2
-invariant_of-self-2 c = ((whole_after c).sound, (whole_after c).plain, c.open.ensures.limit ∙ c.reserve.ensures.limit ∙ c.self.invariant.2)
+invariant_of-self-2 c = ((whole_after c).sound, (whole_after c).plain, record {
+    limit = c.open.ensures.limit ∙ c.reserve.ensures.limit ∙ c.self.invariant.2.limit;
+    associations = c.open.ensures.associations;
+    pages = c.open.ensures.pages_stay ∙ c.self.invariant.2.pages ∙ sym c.open.ensures.opens.gives.rights_count;
+    room = room_for_all c.open.new.clients c.open.new.trail.room (whole_after c).places (room_left c);
+  })
 
 pub returns-clause-turn : goal.returns-clause-turn
 returns-clause-turn c = turn c

@@ -1,4 +1,4 @@
-use Rattle.std.proofs.Common.{◌≡◌, List, ap, subst}
+use Rattle.std.proofs.Common.{◌≡◌, ◌∙◌, List, length, sym, ap, subst}
 use Rattle.casper_dir.specs.declared.holders.Holders.{Holders}
 use Rattle.casper_hub.specs.HubView.{HubView}
 use Rattle.casper_hub.specs.HubFields.{hub_of}
@@ -12,8 +12,13 @@ pub invariant_of-self : goal.invariant_of-self
 invariant_of-self c = (
   sound_supplied c.self.inside.trail.items c.self.inside.limit c.self.inside.clients c.self.inside.pages c.supply.new.self c.args.page c.args.frame c.self.invariant.0
       c.supply.ensures.rights c.supply.ensures.frames,
-  record { quiet = c.self.invariant.1.quiet; up = c.self.invariant.1.up },
-  c.self.invariant.2,
+  record { quiet = c.self.invariant.1.quiet; unkept = c.self.invariant.1.unkept },
+  record {
+    limit = c.self.invariant.2.limit;
+    associations = c.self.invariant.2.associations;
+    pages = c.self.invariant.2.pages ∙ sym (ap length c.supply.ensures.rights);
+    room = c.self.invariant.2.room;
+  },
 )
 
 pub returns-clause-sound : goal.returns-clause-sound
