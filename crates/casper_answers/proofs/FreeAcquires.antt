@@ -69,7 +69,6 @@ module _ (state : State) (known : IsOrderly state) (who : ℕ) (wants : List Wan
 
 module _ (state : State) (known : IsOrderly state) (who : ℕ) (wants : List Want) (calls : ℕ) (outside : Outside) (client : IsClient who)
     (free : NothingHinders state who wants calls) (reads : is_load_failed outside ≡ false) where
-
   -- where something is lacked, nothing stands in the way
   in_the_way : none_missing (missing_once_opened state.shared (own_at state who) wants) ≡ false → NothingStandsInTheWay state (once_opened state who) who wants
   in_the_way lacks =
