@@ -1,5 +1,5 @@
-use Rattle.std.proofs.Common.{◌≡◌, ◌≢◌, ◌⊎◌, ℕ, List, [], ◌∷◌, Bool, true, false, cond, not, ◌&&◌, length, Contains, refl, sym, ap, ◌∙◌, subst, inl, inr, ⊎_elim, true≢false, arith}
-use Rattle.std.specs.Prelude.{Option, None, Some, is_some, option_map, nat_lt, ◌+◌, ◌≤◌, ◌<◌}
+use Rattle.std.proofs.Common.{◌≡◌, ◌⊎◌, ℕ, List, [], ◌∷◌, Bool, true, false, cond, not, ◌&&◌, length, Contains, refl, sym, ap, ◌∙◌, subst, inl, inr, ⊎_elim, true≢false, arith}
+use Rattle.std.specs.Prelude.{Option, None, Some, is_some, option_map, nat_lt, ◌+◌, ◌≤◌}
 use Rattle.std.specs.Option.{option_or}
 use Rattle.std.proofs.lemmas.Bool.{and_parts, or_left, eq-eqb, ltb-false}
 use Rattle.casper_words.specs.Crew.{IsClient, has_member}
@@ -11,7 +11,7 @@ use Rattle.casper_model.specs.declared.reply.Reply.{Reply}
 use Rattle.casper_model.specs.declared.reply.Reply.TheVariants as reply
 use Rattle.casper_model.specs.Acquire.{acquire, acquired_by, answered, missing_once_opened, none_missing, is_in_doubt, refused_in_doubt, frozen_lead, refused_frozen, blocks, blockers_of, refused_pending, refused_missing, refused_full}
 use Rattle.casper_model.specs.Answers.{of_reply}
-use Rattle.casper_model.specs.CallStep.{acquire_step, is_granted, unless_load_failed}
+use Rattle.casper_model.specs.CallStep.{is_granted, unless_load_failed}
 use Rattle.casper_model.specs.Client.{Fallen}
 use Rattle.casper_model.specs.Frozen.{is_member, is_modified_in}
 use Rattle.casper_model.specs.Held.{missing_of}
@@ -69,7 +69,6 @@ module _ (state : State) (known : IsOrderly state) (who : ℕ) (wants : List Wan
 
 module _ (state : State) (known : IsOrderly state) (who : ℕ) (wants : List Want) (calls : ℕ) (outside : Outside) (client : IsClient who)
     (free : NothingHinders state who wants calls) (reads : is_load_failed outside ≡ false) where
-
   -- where something is lacked, nothing stands in the way
   in_the_way : none_missing (missing_once_opened state.shared (own_at state who) wants) ≡ false → NothingStandsInTheWay state (once_opened state who) who wants
   in_the_way lacks =

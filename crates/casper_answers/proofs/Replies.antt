@@ -1,7 +1,6 @@
-use Rattle.std.proofs.Common.{◌≡◌, ◌≢◌, ◌==◌, ℕ, List, Bool, true, false, cond, length, refl, sym, ap, ◌∙◌, subst, true≢false}
-use Rattle.std.specs.Prelude.{Option, None, Some, unwrap_or}
+use Rattle.std.proofs.Common.{◌≡◌, ◌==◌, ℕ, List, Bool, true, false, refl, sym, ap, ◌∙◌, subst, true≢false}
+use Rattle.std.specs.Prelude.{Option, None, Some}
 use Rattle.std.proofs.lemmas.Bool.{cond_both}
-use Rattle.casper_words.specs.declared.page.Want.{Want}
 use Rattle.casper_model.specs.declared.outcome.Kept.{Kept}
 use Rattle.casper_model.specs.declared.outcome.Kept.TheVariants as kept
 use Rattle.casper_model.specs.declared.outcome.Outcome.{Outcome}
@@ -10,27 +9,26 @@ use Rattle.casper_model.specs.declared.outcome.Finished.{Finished}
 use Rattle.casper_model.specs.declared.outcome.Finished.TheVariants as finished
 use Rattle.casper_model.specs.declared.reply.JoinRefusal.{JoinRefusal}
 use Rattle.casper_model.specs.declared.reply.JoinRefusal.TheVariants as refusal
-use Rattle.casper_model.specs.declared.reply.Reply.TheVariants as reply
 use Rattle.casper_model.specs.declared.reply.StabReply.{StabReply}
 use Rattle.casper_model.specs.declared.reply.StabReply.TheVariants as stab
 use Rattle.casper_model.specs.Answers.{of_reply}
 use Rattle.casper_model.specs.Both.{Both, Turned}
 use Rattle.casper_model.specs.Client.{Client, Fallen}
 use Rattle.casper_model.specs.Finish.{failed, finished_as, finished_by, stabilisation_led_by}
-use Rattle.casper_model.specs.Frozen.{stabilisation_of, pages_modified_by}
+use Rattle.casper_model.specs.Frozen.{stabilisation_of}
 use Rattle.casper_model.specs.Join.{joined_by}
-use Rattle.casper_model.specs.Opening.{opened, handed_in}
+use Rattle.casper_model.specs.Opening.{opened}
 use Rattle.casper_model.specs.Own.{Own}
 use Rattle.casper_model.specs.Room.{free_room}
 use Rattle.casper_model.specs.Run.{state_after}
 use Rattle.casper_model.specs.Shared.{Shared, client_at, fallen_at}
 use Rattle.casper_model.specs.Stabilisation.{Stabilisation, Phase, Gathering, Sealed, Doubtful, is_empty}
-use Rattle.casper_model.specs.Stabilise.{kept_at, reply_in_phase, reply_awaiting, frozen_by, stabilised_in, stabilised, stabilised_by}
-use Rattle.casper_model.specs.State.{State, own_at, start}
-use Rattle.casper_laws.specs.AnswerLaws.{is_over, KeepsOutcomes}
+use Rattle.casper_model.specs.Stabilise.{kept_at, reply_in_phase, reply_awaiting, stabilised_in, stabilised, stabilised_by}
+use Rattle.casper_model.specs.State.{own_at, start}
+use Rattle.casper_laws.specs.AnswerLaws.{is_over}
 use Rattle.casper_laws.specs.Additions.{is_without_turn}
 use Rattle.casper_laws.proofs.AnswerLawsKept.{every_kept_over}
-use Rattle.casper_answers.specs.Replies.{NoJoinLacksMemory, NoAcquireLoads, EachFinishFailsAsItsWriteOut, TellsRealFailures, EachToldFailureIsReal}
+use Rattle.casper_answers.specs.Replies.{NoJoinLacksMemory, NoAcquireLoads, EachFinishFailsAsItsWriteOut, EachToldFailureIsReal}
 use Rattle.casper_answers.proofs.StepWalk.{acquire_is_turn}
 
 -- What no turn replies.

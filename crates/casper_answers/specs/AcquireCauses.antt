@@ -1,4 +1,4 @@
-use Rattle.std.specs.Prelude.{◌≡◌, ◌≢◌, ◌⊎◌, ◌+◌, ◌<◌, ◌≤◌, ℕ, List, [], Bool, true, false, length, Option, None, Contains}
+use Rattle.std.specs.Prelude.{◌≡◌, ◌≢◌, ◌⊎◌, ◌+◌, ◌<◌, ◌≤◌, ℕ, List, [], Bool, true, false, length, None, Contains}
 use Rattle.casper_words.specs.Crew.{IsClient, has_member}
 use Rattle.casper_words.specs.declared.page.Want.{Want}
 use Rattle.casper_space.specs.declared.answer.Answer.{Answer}

@@ -1,6 +1,5 @@
-use Rattle.std.proofs.Common.{◌≡◌, ◌≢◌, ◌⊎◌, ◌<◌, ◌==◌, ◌-◌, ℕ, List, [], ◌∷◌, ◌++◌, Bool, true, false, cond, not, ◌&&◌, ◌||◌, map, filter, length, take, Contains, get_or, get_or-set_same, slice_set, refl, sym, ap, ◌∙◌, subst, ⊎_elim, true≢false}
-use Rattle.std.specs.Prelude.{Option, None, Some, is_some, find, filter_map, reverse}
-use Rattle.std.specs.Option.{option_or}
+use Rattle.std.proofs.Common.{◌≡◌, ◌≢◌, ◌==◌, ◌-◌, ℕ, List, [], ◌++◌, Bool, true, false, cond, not, ◌&&◌, map, filter, length, take, Contains, get_or, get_or-set_same, slice_set, refl, sym, ap, ◌∙◌, subst, ⊎_elim, true≢false}
+use Rattle.std.specs.Prelude.{Option, None, Some, is_some, reverse}
 use Rattle.std.specs.List.{list_any}
 use Rattle.std.proofs.lemmas.Bool.{and_parts, and_from, or_left, eqb-true, eq-eqb, false_from_ne_true}
 use Rattle.std.proofs.lemmas.List.{map-append, length-map, length-reverse}
@@ -15,15 +14,13 @@ use Rattle.casper_words.specs.declared.page.Want.{Want}
 use Rattle.casper_space.specs.declared.answer.Answer.TheVariants as answer
 use Rattle.casper_trail.proofs.Rounds.{list_any_implies}
 use Rattle.casper_trail.specs.Association.{association_of}
-use Rattle.casper_model.specs.declared.event.Event.TheVariants as event
 use Rattle.casper_model.specs.declared.reply.Reply.{Reply}
 use Rattle.casper_model.specs.Acquire.{acquire, acquired_by, answered, missing_once_opened, refused_missing, refused_full}
 use Rattle.casper_model.specs.Answers.{of_reply}
 use Rattle.casper_model.specs.Both.{Both}
 use Rattle.casper_model.specs.CallStep.{acquire_step, is_granted}
-use Rattle.casper_model.specs.Client.{Client, Fallen}
+use Rattle.casper_model.specs.Client.{Fallen}
 use Rattle.casper_model.specs.Held.{is_of, is_to_write, covers, allows, lowered, holds, with_first, granted_right, with_granted}
-use Rattle.casper_model.specs.Hits.{with_call}
 use Rattle.casper_model.specs.Leave.{serve, served_by}
 use Rattle.casper_model.specs.Opening.{asks_for, is_asked_for, any_right, kept_dropped, recorded, begun, is_given_up_wholly, is_given_up_to_reading, kept_of, given_up, gathering_of, handed_in_to, opened, given_in_opening}
 use Rattle.casper_model.specs.Frozen.{is_member}
@@ -31,14 +28,13 @@ use Rattle.casper_model.specs.Outside.{Outside}
 use Rattle.casper_model.specs.Own.{Own, blank}
 use Rattle.casper_model.specs.Rights.{InOrder}
 use Rattle.casper_model.specs.Run.{state_after}
-use Rattle.casper_model.specs.Shared.{Shared, client_at, of_client, asks_at, fallen_at, is_live}
+use Rattle.casper_model.specs.Shared.{Shared, client_at, of_client, asks_at, fallen_at}
 use Rattle.casper_model.specs.Stabilisation.{Stabilisation, is_gathering}
 use Rattle.casper_model.specs.State.{State, own_at, after_turn, start}
 use Rattle.casper_model.specs.Step.{serve_turn}
 use Rattle.casper_model.specs.Turn.{guarded}
 use Rattle.casper_model.specs.View.{value_seen}
-use Rattle.casper_model.proofs.Additions.{who_opened}
-use Rattle.casper_model.proofs.HeldRights.{passes, covers_read, allows_covered, any_in_map}
+use Rattle.casper_model.proofs.HeldRights.{passes, covers_read, any_in_map}
 use Rattle.casper_model.proofs.OpeningRights.{kept_or_lowered, others_agreed, opened_allows_no_more}
 use Rattle.casper_model.proofs.Places.{client_unchanged}
 use Rattle.casper_model.proofs.RunRights.{every_run_rights}
@@ -49,7 +45,7 @@ use Rattle.casper_laws.specs.OwnLists.{IsStanding}
 use Rattle.casper_laws.proofs.CompletedCalls.{unless_turn}
 use Rattle.casper_laws.proofs.ExactAdditions.{IfRefused, either_refuses, missing_refuses, full_refuses}
 use Rattle.casper_laws.proofs.PendingSteps.{acquire_empties, serve_empties}
-use Rattle.casper_caches.specs.CacheLaws.{pages_of, others, ComesFirst, HitsComeFirst, left_by_opening, NobodyElseAsks, HandsNothingIn, KeepsTheOrder, GainsNothing, KeepsTheUnasked, KeepsToRead, ServesByOpening, is_refused, RefusalsOnlyOpen, PutsItsPagesFirst, GivesUpTheOldest, EachHitComesFirst, EachOpeningKeepsTheOrder, EachOpeningGainsNothing, EachOpeningKeepsTheUnasked, EachOpeningKeepsToRead, EachServeOnlyOpens, EachRefusedAcquireOnlyOpens, EachGrantPutsItsPagesFirst, EachGrantGivesUpTheOldest}
+use Rattle.casper_caches.specs.CacheLaws.{pages_of, others, ComesFirst, HitsComeFirst, left_by_opening, KeepsTheOrder, GainsNothing, KeepsTheUnasked, KeepsToRead, ServesByOpening, is_refused, RefusalsOnlyOpen, EachHitComesFirst, EachOpeningKeepsTheOrder, EachOpeningGainsNothing, EachOpeningKeepsTheUnasked, EachOpeningKeepsToRead, EachServeOnlyOpens, EachRefusedAcquireOnlyOpens, EachGrantPutsItsPagesFirst, EachGrantGivesUpTheOldest}
 use Rattle.casper_caches.proofs.CacheLists.{map_reversed, pages_granted, pages_lowered, filter_taken, wanted_in_front, used_first, others_stay, kept_in_order, keeps_passing, find_nothing}
 use Rattle.casper_caches.proofs.Lines.{read_is_hit, write_is_hit, own_after_hit}
 

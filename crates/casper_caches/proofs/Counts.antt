@@ -1,4 +1,4 @@
-use Rattle.std.proofs.Common.{◌≡◌, ◌<◌, ◌≤◌, ◌+◌, ◌==◌, ℕ, suc, List, [], ◌∷◌, ◌++◌, Bool, true, false, cond, ◌||◌, map, filter, length, take, refl, sym, ap, ◌∙◌, true≢false, arith}
+use Rattle.std.proofs.Common.{◌≡◌, ◌<◌, ◌≤◌, ◌+◌, ◌==◌, ℕ, suc, List, [], ◌∷◌, ◌++◌, Bool, true, false, cond, ◌||◌, map, filter, length, take, refl, ap, true≢false, arith}
 use Rattle.std.specs.Prelude.{Option, None, Some, filter_map, reverse}
 use Rattle.std.specs.List.{count_by, list_any, cons_option}
 use Rattle.std.proofs.lemmas.Bool.{eqb-true}

@@ -1,25 +1,23 @@
-use Rattle.std.proofs.Common.{◌≡◌, ◌≢◌, ◌⊎◌, ◌<◌, ◌≤◌, ◌+◌, ◌-◌, ◌==◌, ℕ, zero, suc, List, [], ◌∷◌, ◌++◌, Bool, true, false, cond, not, min, map, filter, length, take, get_or, get_or-set_same, get_or-set_other, refl, sym, ap, ◌∙◌, subst, inl, inr, ⊎_elim, true≢false, arith}
+use Rattle.std.proofs.Common.{◌≡◌, ◌≢◌, ◌⊎◌, ◌<◌, ◌≤◌, ◌+◌, ◌-◌, ◌==◌, ℕ, zero, suc, List, [], ◌∷◌, Bool, true, false, cond, not, min, map, filter, length, take, get_or, get_or-set_same, get_or-set_other, refl, sym, ap, ◌∙◌, subst, inl, inr, ⊎_elim, arith}
 use Rattle.std.specs.Prelude.{Option, None, Some, filter_map, reverse, slice_index_or}
-use Rattle.std.specs.List.{count_by, list_any, range_with_len}
+use Rattle.std.specs.List.{count_by, range_with_len}
 use Rattle.std.proofs.lemmas.Bool.{cond_both, cases_eq, eqb-true}
 use Rattle.std.proofs.lemmas.List.{length-append, length-map, length-reverse, length-take}
 use Rattle.std.proofs.lemmas.List.Filters.{length-filter_both}
-use Rattle.std.proofs.lemmas.List.Sums.{length-filter, count_by-le-length}
 use Rattle.casper_words.specs.Crew.{IsClient}
 use Rattle.casper_words.specs.Wants.{AreWants}
-use Rattle.casper_words.specs.declared.page.Right.TheVariants as may
 use Rattle.casper_words.specs.declared.page.Want.{Want}
 use Rattle.casper_model.specs.declared.reply.JoinRefusal.{JoinRefusal}
 use Rattle.casper_model.specs.declared.reply.Reply.{Reply}
-use Rattle.casper_model.specs.Acquire.{acquire, acquired_by, answered, missing_once_opened, refused_missing, refused_full}
+use Rattle.casper_model.specs.Acquire.{acquire, acquired_by, answered, missing_once_opened}
 use Rattle.casper_model.specs.Both.{Both, Turned}
 use Rattle.casper_model.specs.Client.{Client, Fallen}
 use Rattle.casper_model.specs.declared.outcome.Kept.{Kept}
-use Rattle.casper_model.specs.Held.{is_of, lowered, holds, allows, with_first, granted_right, with_granted}
+use Rattle.casper_model.specs.Held.{is_of, lowered, holds, with_first, granted_right, with_granted}
 use Rattle.casper_model.specs.Hits.{with_call}
 use Rattle.casper_model.specs.Join.{join, joined_by}
 use Rattle.casper_model.specs.Leave.{serve, served_by, depart, departed_by, vanish}
-use Rattle.casper_model.specs.Opening.{begun, given_up, kept_of, is_given_up_wholly, is_given_up_to_reading, gathering_of, handed_in, handed_in_to, opened, given_in_opening}
+use Rattle.casper_model.specs.Opening.{begun, given_up, kept_of, is_given_up_wholly, is_given_up_to_reading, gathering_of, handed_in_to, opened, given_in_opening}
 use Rattle.casper_model.specs.Own.{Own, blank}
 use Rattle.casper_model.specs.Rights.{InOrder}
 use Rattle.casper_model.specs.Room.{free_room}
@@ -28,7 +26,7 @@ use Rattle.casper_model.specs.Shared.{Shared, client_at, fallen_at}
 use Rattle.casper_model.specs.Stabilisation.{Stabilisation}
 use Rattle.casper_model.specs.Stabilise.{stabilise, stabilised_by, stabilised, stabilised_in, kept_at}
 use Rattle.casper_model.specs.Frozen.{stabilisation_of}
-use Rattle.casper_model.specs.State.{State, own_at, with_own, with_shared, after_turn, start}
+use Rattle.casper_model.specs.State.{State, own_at, with_own, with_shared, start}
 use Rattle.casper_model.specs.Vault.{VaultState}
 use Rattle.casper_model.proofs.OpeningRights.{kept_or_lowered}
 use Rattle.casper_model.proofs.RunRights.{start_in_order, blank_at}

@@ -1,6 +1,6 @@
-use Rattle.std.proofs.Common.{◌≡◌, ◌≢◌, ◌<◌, ◌≤◌, ◌+◌, ◌-◌, ◌==◌, ◌&&◌, ℕ, suc, List, [], ◌∷◌, ◌++◌, Bool, true, false, cond, not, min, length, Contains, get_or-set_same, refl, sym, ap, ◌∙◌, subst, ⊎_elim, true≢false, arith}
+use Rattle.std.proofs.Common.{◌≡◌, ◌<◌, ◌≤◌, ◌+◌, ℕ, suc, List, [], ◌∷◌, ◌++◌, Bool, true, false, cond, length, Contains, get_or-set_same, refl, sym, ap, ◌∙◌, subst, ⊎_elim, true≢false, arith}
 use Rattle.std.specs.Prelude.{Option, None, Some, is_some, nat_lt}
-use Rattle.std.specs.List.{list_any, list_all}
+use Rattle.std.specs.List.{list_all}
 use Rattle.std.proofs.lemmas.Bool.{and_parts, and_from, eqb-true, lt-ltb, ltb-true}
 use Rattle.std.proofs.lemmas.List.{length_push}
 use Rattle.casper_words.specs.Crew.{IsClient}
@@ -15,11 +15,11 @@ use Rattle.casper_space.specs.declared.answer.Answer.TheVariants as answer
 use Rattle.casper_model.specs.declared.event.Event.{Event}
 use Rattle.casper_model.specs.declared.event.Event.TheVariants as event
 use Rattle.casper_model.specs.declared.reply.Reply.{Reply}
-use Rattle.casper_model.specs.Acquire.{acquire, acquired_by, answered, missing_once_opened}
+use Rattle.casper_model.specs.Acquire.{acquired_by, answered, missing_once_opened}
 use Rattle.casper_model.specs.Both.{Both}
 use Rattle.casper_model.specs.CallStep.{acquire_step, call_by, hit_turn, read_hit, write_hit, is_granted, unless_load_failed}
 use Rattle.casper_model.specs.Client.{Client, Fallen}
-use Rattle.casper_model.specs.Held.{is_of, covers, allows, with_first}
+use Rattle.casper_model.specs.Held.{is_of, covers, allows}
 use Rattle.casper_model.specs.Hits.{can_hit, with_call}
 use Rattle.casper_model.specs.Opening.{begun, given_up, gathering_of, handed_in_to, opened, given_in_opening}
 use Rattle.casper_model.specs.Outside.{Outside}
