@@ -27,7 +27,7 @@ played_chain limits vault (played ∷ more) all = (
 -- the calls that answers complete, and those that further answers complete
 completed_append : (events more : List Event) (given further : List Answer) → length given ≡ length events
     → completed_in (events ++ more) (given ++ further) ≡ completed_in events given + completed_in more further
-completed_append [] more [] further each = refl
+completed_append [] more [] further each = omega arith
 completed_append [] more (one ∷ given) further each = absurd (omega (arith, each))
 completed_append (asked ∷ events) more [] further each = absurd (omega (arith, each))
 completed_append (asked ∷ events) more (one ∷ given) further each =

@@ -1,4 +1,4 @@
-use Rattle.std.proofs.Common.{◌+◌, ◌∙◌, arith, refl, inl, inr}
+use Rattle.std.proofs.Common.{◌∙◌, arith, refl, inl, inr}
 use Rattle.casper_app.specs.Reading.{IsReading}
 use Rattle.casper_app.proofs.ReadingLemmas.{stands_first, stands_more, reading_failed, reading_failed_last, reading_refused, is_line, err_is}
 use Rattle.casper_app.proofs.lines.take_lines.Goals as goal

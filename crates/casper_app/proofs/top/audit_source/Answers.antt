@@ -1,7 +1,4 @@
-use Rattle.std.proofs.Common.{◌∙◌, sym, ap, subst, inl, inr, ◌⊎◌, ◌≡◌}
-use Rattle.casper_app.specs.declared.cause.Cause.TheVariants as cause
-use Rattle.casper_app.specs.declared.end.End.{End}
-use Rattle.casper_app.specs.declared.end.End.TheVariants as end
+use Rattle.std.proofs.Common.{◌∙◌, sym, inl, inr}
 use Rattle.casper_app.proofs.RunLemmas.{audit_done, audit_read, audit_writes_not, done_meant, read_meant, audit_stands, runs_audit, end_by}
 use Rattle.casper_app.proofs.top.audit_source.Goals as goal
 

@@ -29,8 +29,8 @@ returns-in-Ok-clause-takes g c = record {
   );
 }
 
-pub returns-clause-takes : goal.returns-clause-takes
-returns-clause-takes g c = record {
+pub returns-in-Err-Failed-clause-takes : goal.returns-in-Err-Failed-clause-takes
+returns-in-Err-Failed-clause-takes g c = record {
   given = Some c.in_ok-answer.answer;
   carries = c.in_ok-answer.ensures.step;
   outlet = c.in_ok-answer.ensures.outlet;
