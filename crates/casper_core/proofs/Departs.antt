@@ -18,7 +18,7 @@ up_by : (shared : Shared) (own : machine.Own) (fallen : Option Fallen) → falle
 up_by shared own None is reply = is
 up_by shared own (Some fallen) is reply = cc
 
-up_as_it_departs : (shared : Shared) (own : machine.Own) → served.Ok ≡ (depart shared own).reply → fallen_at shared own.who ≡ None
+pub up_as_it_departs : (shared : Shared) (own : machine.Own) → served.Ok ≡ (depart shared own).reply → fallen_at shared own.who ≡ None
 up_as_it_departs shared own reply = up_by shared own (fallen_at shared own.who) refl reply
 
 -- the own part of a client that has departed is blank
@@ -27,7 +27,7 @@ opened_who : (both : Both) (gathering : Option Stabilisation)
 opened_who both None = refl
 opened_who both (Some gathering) = refl
 
-departed_own : (shared : Shared) (own : machine.Own) → fallen_at shared own.who ≡ None → (depart shared own).own ≡ machine.blank own.who own.capacity
+pub departed_own : (shared : Shared) (own : machine.Own) → fallen_at shared own.who ≡ None → (depart shared own).own ≡ machine.blank own.who own.capacity
 departed_own shared own up =
     let both = given_up (begun shared own) in
     ap (λ fallen. (departed_by shared own fallen).own) up ∙ opened_who both (gathering_of both.shared both.own.who)

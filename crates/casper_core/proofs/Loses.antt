@@ -1,4 +1,4 @@
-use Rattle.std.proofs.Common.{◌≡◌, ◌≢◌, ℕ, refl, sym, ap, ◌∙◌, subst}
+use Rattle.std.proofs.Common.{◌≡◌, ℕ, Bool, List, refl, ap}
 use Rattle.std.specs.Prelude.{IsTrue}
 use Rattle.casper_space.specs.declared.answer.Answer.{Answer}
 use Rattle.casper_cache.specs.Own as cache

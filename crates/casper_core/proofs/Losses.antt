@@ -1,4 +1,4 @@
-use Rattle.std.proofs.Common.{◌≡◌, ℕ, [], ◌∷◌, ◌++◌, Bool, true, false, cond, refl, ap, ◌∙◌}
+use Rattle.std.proofs.Common.{◌≡◌, ℕ, [], ◌∷◌, Bool, true, false, cond, length, refl}
 use Rattle.std.specs.Prelude.{Option, None, Some}
 use Rattle.casper_words.specs.Crew.{IsClient}
 use Rattle.casper_space.specs.declared.answer.Answer.TheVariants as answer
@@ -8,6 +8,7 @@ use Rattle.casper_trail.specs.Association.{association_of}
 use Rattle.casper_trail.specs.Parts.{stable_entries}
 use Rattle.casper_trail.proofs.Images.{stable_without_commit}
 use Rattle.casper_model.specs.declared.event.Event.TheVariants as event
+use Rattle.casper_model.specs.declared.reply.Loss.{Loss}
 use Rattle.casper_model.specs.declared.reply.Loss.TheVariants.{Lost, Noted}
 use Rattle.casper_model.specs.Answers.{of_depart, of_vanish}
 use Rattle.casper_model.specs.Both.{Changed}
@@ -30,15 +31,17 @@ use Rattle.casper_core.proofs.Places.{stable_stays}
 rolled_back_stays : (shared : Shared) (lost : ℕ) → stable_entries (rolled_back shared lost).trail ≡ stable_entries shared.trail
 rolled_back_stays shared lost = stable_without_commit shared.trail (item.Mark (Rollback lost (association_of shared.trail lost)) ∷ []) refl
 
+-- what a loss adds, where it is noted or not
+noted_stays : (shared : Shared) (who unrecorded : ℕ) (one : Stabilisation) (gathering : Bool)
+    → stable_entries (cond {A = Changed Loss} gathering (record { reply = Lost (length shared.trail) unrecorded; shared = rolled_back shared who })
+    (record { reply = Noted one.lead unrecorded; shared = change_stabilisation one.lead (with_noted who) shared })).shared.trail
+    ≡ stable_entries shared.trail
+noted_stays shared who unrecorded one true = rolled_back_stays shared who
+noted_stays shared who unrecorded one false = refl
+
 lost_stays : (shared : Shared) (who unrecorded : ℕ) (found : Option Stabilisation) → stable_entries (lost_in shared who unrecorded found).shared.trail ≡ stable_entries shared.trail
 lost_stays shared who unrecorded None = rolled_back_stays shared who
-lost_stays shared who unrecorded (Some one) = by (is_gathering one.phase)
-  where
-    by : (gathering : Bool)
-        → stable_entries (cond {A = Changed _} gathering (record { reply = Lost _ unrecorded; shared = rolled_back shared who }) (record { reply = Noted one.lead unrecorded; shared = change_stabilisation one.lead (with_noted who) shared })).shared.trail
-        ≡ stable_entries shared.trail
-    by true = rolled_back_stays shared who
-    by false = refl
+lost_stays shared who unrecorded (Some one) = noted_stays shared who unrecorded one (is_gathering one.phase)
 
 pub lose_stays : (shared : Shared) (who : ℕ) → stable_entries (lose shared who).shared.trail ≡ stable_entries shared.trail
 lose_stays shared who = by (fallen_at shared who)
@@ -52,7 +55,7 @@ vanish_stays shared own = by (fallen_at shared own.who)
   where
     by : (fallen : Option Fallen) → stable_entries (vanished_by shared own fallen).shared.trail ≡ stable_entries shared.trail
     by (Some fallen) = refl
-    by None = lost_stays shared own.who _ (stabilisation_of shared own.who)
+    by None = lost_stays shared own.who (length own.pending) (stabilisation_of shared own.who)
 
 -- a departure, and the vanishing of a client, are turns of it that make nothing stable
 pub depart_is : (who : ℕ) → IsClient who → IsStepOf depart of_depart who (event.Depart who)

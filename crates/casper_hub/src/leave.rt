@@ -69,6 +69,7 @@ impl Hub {
         ensures cache_stays { OnErr result (cache.new ≡ cache.old) }
         ensures absent { IfOk result (λ reply. reply ≡ Served.Ok
             → is_live_in self.new who ≡ false) }
+        ensures stays { IfOk result (λ reply. reply ≢ Served.Ok → is_live_in self.new who ≡ true) }
         ensures owned { is_live_in self.new who ≡ true → Owns self.new cache.new }
         ensures client_after { cache.new.client ≡ who }
         ensures frames { (base : List (List ℕ)) → FramesAreRight base self.old

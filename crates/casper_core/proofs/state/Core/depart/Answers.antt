@@ -297,4 +297,33 @@ returns-clause-shape g c =
     g.V.Vault.tells leaves holds core.calls core.vault core.size core.told))
 
 pub returns-clause-sound : goal.returns-clause-sound
-returns-clause-sound g c = invariant_of-self-in_default-reply g c
+returns-clause-sound g c =
+    let core : CoreView g.row.V.Denot = record {
+      hub = c.self.inside.hub;
+      caches = c.self.inside.caches.items;
+      capacity = c.self.inside.capacity;
+      calls = c.self.inside.calls;
+      vault = c.self.inside.vault;
+      size = g.V.Vault.size c.self.inside.vault;
+      told = told_by g.V.Vault.image g.V.Vault.version g.V.Vault.room g.V.Vault.doubt c.self.inside.vault;
+    } in
+    let sound : IsSound core = c.self.invariant in
+    let same = c.number-place.ensures.number in
+    let client : IsClient c.args.who = subst IsClient same (c.number-place.ensures.least, c.number-place.ensures.most) in
+    let below : c.args.who < length core.caches = omega (arith, client.1, sound.places) in
+    let found = found_at core.caches c.number-place.result c.args.who c.index_mut.result.now (Some c.in-Some.cache) same below c.index_mut.ensures.value c.in-Some.is in
+    let ensured = c.in_ok-reply.ensures in
+    let stands = stands_for core.hub sound.hub.stands in
+    let leaves : KeepsHubRight c.args.who g.V.Vault.tells core.told.image core.hub c.in-Some.cache c.depart.new.self = record {
+      sound = ensured.sound;
+      others = ensured.others;
+      frames = λ told base stored frames words. ensured.frames base frames words;
+    } in
+    let holds : Holds c.args.who g.V.Vault.tells core.told.image core.hub c.in-Some.cache c.depart.new.self c.depart.new.cache = record {
+      client = ensured.client_after;
+      capacity = ap (λ (own : machine.Own). own.capacity) (ensured.turn.owns stands.shared stands.shows) ∙ depart_capacity stands.shared (own_of c.in-Some.cache);
+      owns = ensured.owned (ensured.stays c.in_default-reply.not-Ok);
+      words = λ told base stored frames words. ensured.words base frames words;
+    } in
+    sound_stayed depart of_depart (event.Depart c.args.who) core c.number-place.result c.args.who same client (depart_is c.args.who client) sound c.in-Some.cache found c.depart.new.self c.depart.new.cache c.in_ok-reply.reply ensured.turn
+    g.V.Vault.tells leaves holds core.calls core.vault core.size core.told refl sound.sure

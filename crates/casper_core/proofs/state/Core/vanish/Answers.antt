@@ -91,8 +91,8 @@ vanish-loss-requires-clause-owns g c =
     let found = found_at core.caches c.number-place.result c.args.who c.index_mut.result.now (Some c.in-Some.cache) same below c.index_mut.ensures.value c.in-Some.is in
     (sound.kept c.args.who c.in-Some.cache found).owns
 
-pub invariant_of-self : goal.invariant_of-self
-invariant_of-self g c =
+pub invariant_of-self-2 : goal.invariant_of-self-2
+invariant_of-self-2 g c =
     let core : CoreView g.row.V.Denot = record {
       hub = c.self.inside.hub;
       caches = c.self.inside.caches.items;

@@ -1,4 +1,4 @@
-use Rattle.std.proofs.Common.{◌≡◌, ◌≤◌, ◌+◌, ◌∙◌, List, length, sym, ap, subst, arith}
+use Rattle.std.proofs.Common.{◌≡◌, ◌≤◌, ◌+◌, ◌∙◌, ℕ, List, true, length, refl, sym, ap, subst, arith}
 use Rattle.std.specs.Prelude.{None}
 use Rattle.casper_trail.specs.declared.item.Item.{Item}
 use Rattle.casper_model.specs.declared.reply.Served.TheVariants as served
@@ -7,7 +7,7 @@ use Rattle.casper_model.specs.Shared.{Shared}
 use Rattle.casper_turns.specs.Good.{IsGoodShared}
 use Rattle.casper_turns.specs.Kept.{KeptByTurn}
 use Rattle.casper_turns.specs.TurnLaws.{IsTurn as MachineTurn}
-use Rattle.casper_hub.specs.HubView.{HubView, fallen_in}
+use Rattle.casper_hub.specs.HubView.{HubView, fallen_in, is_live}
 use Rattle.casper_hub.specs.Keeping.{MayBeRecorded}
 use Rattle.casper_hub.specs.Places.{shown_fall}
 use Rattle.casper_hub.specs.HubFields.{hub_of}
@@ -156,3 +156,10 @@ returns-in-Some-clause-turn c =
     (ap (fallen_in c.args.self.now) c.requires.client
     ∙ fell_seen c.args.who c.self.inside.limit c.self.inside.trail.items c.self.inside.clients c.self.inside.pages c.args.self.now c.fall.result c.in-Some.fall c.self.view_is c.fall.ensures c.in-Some.is)
     c.tell.new.self c.tell.new.cache (served.RolledBack c.in-Some.fall.mark c.in-Some.fall.dropped c.in_ok-unrecorded.unrecorded) c.in_ok-unrecorded.ensures.turn
+
+pub returns-in-Some-clause-stays : goal.returns-in-Some-clause-stays
+returns-in-Some-clause-stays c = λ told.
+    subst (λ (n : ℕ). is_live c.tell.new.self n ≡ true) c.in_ok-unrecorded.ensures.client_after c.in_ok-unrecorded.ensures.owned.live
+
+pub returns-clause-stays : goal.returns-clause-stays
+returns-clause-stays c = λ told. absurd (told refl)
