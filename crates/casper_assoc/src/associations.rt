@@ -105,6 +105,7 @@ impl Associations {
         ensures pages { pages_in self.new ≡ pages_in self.old }
         ensures sound { AreSound self.new }
     {
+        // That the labels are sound is known once they are looked at, also where there are no wants.
         let _labels = &self.labels;
         for want in wants {
             self.touch(who, want.page);
