@@ -10,7 +10,7 @@ use Rattle.casper_text.specs.Number.{number_of}
 use Rattle.casper_text.proofs.NumberLemmas.{number_read_back, number_text}
 use Rattle.casper_model.specs.declared.event.Event.{Event}
 use Rattle.casper_model.specs.declared.event.Event.TheVariants as event
-use Rattle.casper_app.specs.Schedule.{client_of, lone_client, place_of, want_of, each_want, are_wants, rising_wants, wants_of, join_of, read_of, write_of, acquire_of, serve_of, depart_of, event_of_verb}
+use Rattle.casper_app.specs.Schedule.{client_of, lone_client, place_of, want_of, each_want, are_wants, rising_wants, wants_of, join_of, read_of, write_of, acquire_of, serve_of, depart_of, vanish_of, lose_of, event_of_verb}
 use Rattle.casper_app.specs.Grammar.{want_text, words_of_event, AreAsked, IsEvent, EventsAreReadBack, EventsHaveOneText}
 use Rattle.casper_app.proofs.WantLemmas.{want_read_back, text_of_want, wants_found, wants_pass, each_more}
 
@@ -120,8 +120,8 @@ events_are_read_back (event.Stabilise who) in_ranges = absurd in_ranges
 events_are_read_back (event.WriteOut lead) in_ranges = absurd in_ranges
 events_are_read_back (event.Finish lead) in_ranges = absurd in_ranges
 events_are_read_back event.Settle in_ranges = absurd in_ranges
-events_are_read_back (event.Vanish who) in_ranges = absurd in_ranges
-events_are_read_back (event.Lose who) in_ranges = absurd in_ranges
+events_are_read_back (event.Vanish who) in_ranges = ap (option_map (λ (w : ℕ). event.Vanish w)) (client_read_back who in_ranges)
+events_are_read_back (event.Lose who) in_ranges = ap (option_map (λ (w : ℕ). event.Lose w)) (client_read_back who in_ranges)
 
 -- what stands after a verb has one text
 abbrev HasText : List ℕ → List (List ℕ) → Event → Type 0
@@ -147,6 +147,18 @@ depart_text rest asked asks =
     let who = mapped (λ (w : ℕ). event.Depart w) (lone_client rest) asked asks in
     let named = lone_text rest who.0 who.1 in
     subst (HasText (codes "depart") rest) who.2 (named.0, ap (λ (r : List (List ℕ)). codes "depart" ∷ r) named.1)
+
+vanish_text : (rest : List (List ℕ)) (asked : Event) → vanish_of rest ≡ Some asked → HasText (codes "vanish") rest asked
+vanish_text rest asked asks =
+    let who = mapped (λ (w : ℕ). event.Vanish w) (lone_client rest) asked asks in
+    let named = lone_text rest who.0 who.1 in
+    subst (HasText (codes "vanish") rest) who.2 (named.0, ap (λ (r : List (List ℕ)). codes "vanish" ∷ r) named.1)
+
+lose_text : (rest : List (List ℕ)) (asked : Event) → lose_of rest ≡ Some asked → HasText (codes "lose") rest asked
+lose_text rest asked asks =
+    let who = mapped (λ (w : ℕ). event.Lose w) (lone_client rest) asked asks in
+    let named = lone_text rest who.0 who.1 in
+    subst (HasText (codes "lose") rest) who.2 (named.0, ap (λ (r : List (List ℕ)). codes "lose" ∷ r) named.1)
 
 read_text : (rest : List (List ℕ)) (asked : Event) → read_of rest ≡ Some asked → HasText (codes "read") rest asked
 read_text [] asked asks = nothing_asked asked asks
@@ -220,7 +232,9 @@ event_text verb rest asked =
     (by_verb verb (codes "write") rest asked (write_of rest) _ (write_text rest asked)
     (by_verb verb (codes "acquire") rest asked (acquire_of rest) _ (acquire_text rest asked)
     (by_verb verb (codes "serve") rest asked (serve_of rest) _ (serve_text rest asked)
-    (by_verb verb (codes "depart") rest asked (depart_of rest) None (depart_text rest asked) (nothing_asked asked))))))
+    (by_verb verb (codes "depart") rest asked (depart_of rest) _ (depart_text rest asked)
+    (by_verb verb (codes "vanish") rest asked (vanish_of rest) _ (vanish_text rest asked)
+    (by_verb verb (codes "lose") rest asked (lose_of rest) None (lose_text rest asked) (nothing_asked asked))))))))
 
 pub events_have_one_text : EventsHaveOneText
 events_have_one_text [] asked asks = nothing_asked asked asks

@@ -54,8 +54,8 @@ some_words (event.Stabilise who) is none = is
 some_words (event.WriteOut lead) is none = is
 some_words (event.Finish lead) is none = is
 some_words event.Settle is none = is
-some_words (event.Vanish who) is none = is
-some_words (event.Lose who) is none = is
+some_words (event.Vanish who) is none = cc
+some_words (event.Lose who) is none = cc
 
 abbrev IsKnown : List ℕ → Type 0
 IsKnown first = ((who : ℕ) × IsClient who × (first ≡ decimal who)) ⊎ Contains unbuilt_verbs first

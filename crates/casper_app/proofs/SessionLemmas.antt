@@ -55,8 +55,8 @@ client_named (event.Stabilise who) is = absurd is
 client_named (event.WriteOut lead) is = absurd is
 client_named (event.Finish lead) is = absurd is
 client_named event.Settle is = absurd is
-client_named (event.Vanish who) is = absurd is
-client_named (event.Lose who) is = absurd is
+client_named (event.Vanish who) is = is
+client_named (event.Lose who) is = is
 
 -- the event that a line asks for is one of a built line
 words_ask : (list : List (List ℕ)) → WhereAsked IsEvent (event_of_parsed (parsed_words list))

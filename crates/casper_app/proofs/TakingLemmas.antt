@@ -39,8 +39,8 @@ built (event.Stabilise who) is = absurd is
 built (event.WriteOut lead) is = absurd is
 built (event.Finish lead) is = absurd is
 built event.Settle is = absurd is
-built (event.Vanish who) is = absurd is
-built (event.Lose who) is = absurd is
+built (event.Vanish who) is = tt
+built (event.Lose who) is = tt
 
 -- a vault in memory as it is made tells what the machine's does
 pub stands_at_start : (pages entries cache : ℕ) (vault : HeldPages) (core : CoreView HeldPages) → core.told ≡ record { image = held_image vault; version = vault.version; room = None; doubt = None }

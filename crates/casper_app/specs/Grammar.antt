@@ -30,8 +30,8 @@ words_of_event (event.Stabilise who) = []
 words_of_event (event.WriteOut lead) = []
 words_of_event (event.Finish lead) = []
 words_of_event event.Settle = []
-words_of_event (event.Vanish who) = []
-words_of_event (event.Lose who) = []
+words_of_event (event.Vanish who) = codes "vanish" ∷ decimal who ∷ []
+words_of_event (event.Lose who) = codes "lose" ∷ decimal who ∷ []
 
 -- one to four wants, with pages strictly rising, each with a number below 2 ^ 32
 abbrev pub AreAsked : List Want → Type 0
@@ -50,8 +50,8 @@ IsEvent (event.Stabilise who) = ⊥
 IsEvent (event.WriteOut lead) = ⊥
 IsEvent (event.Finish lead) = ⊥
 IsEvent event.Settle = ⊥
-IsEvent (event.Vanish who) = ⊥
-IsEvent (event.Lose who) = ⊥
+IsEvent (event.Vanish who) = IsClient who
+IsEvent (event.Lose who) = IsClient who
 
 -- the words of an event's line ask for that event
 abbrev pub EventsAreReadBack : Type 0

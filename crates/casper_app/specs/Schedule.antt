@@ -96,6 +96,14 @@ serve_of rest = option_map (λ who. event.Serve who) (lone_client rest)
 abbrev pub depart_of : List (List ℕ) → Option Event
 depart_of rest = option_map (λ who. event.Depart who) (lone_client rest)
 
+-- what stands after `vanish`: a client
+abbrev pub vanish_of : List (List ℕ) → Option Event
+vanish_of rest = option_map (λ who. event.Vanish who) (lone_client rest)
+
+-- what stands after `lose`: a client
+abbrev pub lose_of : List (List ℕ) → Option Event
+lose_of rest = option_map (λ who. event.Lose who) (lone_client rest)
+
 -- the event that a verb and the words after it ask for
 abbrev pub event_of_verb : List ℕ → List (List ℕ) → Option Event
 event_of_verb verb rest =
@@ -104,7 +112,9 @@ event_of_verb verb rest =
     (if bytes_eq verb (codes "write") then write_of rest else
     (if bytes_eq verb (codes "acquire") then acquire_of rest else
     (if bytes_eq verb (codes "serve") then serve_of rest else
-    (if bytes_eq verb (codes "depart") then depart_of rest else None)))))
+    (if bytes_eq verb (codes "depart") then depart_of rest else
+    (if bytes_eq verb (codes "vanish") then vanish_of rest else
+    (if bytes_eq verb (codes "lose") then lose_of rest else None)))))))
 
 -- the event that the words of a line ask for
 abbrev pub event_of : List (List ℕ) → Option Event
@@ -114,7 +124,7 @@ event_of (verb ∷ rest) = event_of_verb verb rest
 -- the first words of the lines that are not built yet, but for client numbers
 abbrev pub unbuilt_verbs : List (List ℕ)
 unbuilt_verbs =
-    codes "stabilise" ∷ codes "writeout" ∷ codes "finish" ∷ codes "settle" ∷ codes "vanish" ∷ codes "lose" ∷ codes "reopen" ∷ []
+    codes "stabilise" ∷ codes "writeout" ∷ codes "finish" ∷ codes "settle" ∷ codes "reopen" ∷ []
 
 abbrev pub is_unbuilt_verb : List ℕ → Bool
 is_unbuilt_verb word = list_any (bytes_eq word) unbuilt_verbs

@@ -1,6 +1,6 @@
 ghost use Rattle.std.specs.Prelude.{◌≡◌, [], ◌∷◌, ◌<◌, length, map, position, All, IfOk, IfSome};
 ghost use Rattle.casper_text.specs.Span.{IsWithin, word_at};
-ghost use Rattle.casper_app.specs.Schedule.{client_of as client_in, lone_client as lone_client_in, place_of as place_in, right_of as right_in, want_of as want_in, wants_of as wants_in, rising_wants, is_colon, join_of, read_of, write_of, acquire_of, serve_of, depart_of, event_of as event_of_line, is_unbuilt as begins_unbuilt, is_unbuilt_verb as among_unbuilt, is_comment as begins_comment, parsed_words as words_parsed, parsed_line as line_parsed};
+ghost use Rattle.casper_app.specs.Schedule.{client_of as client_in, lone_client as lone_client_in, place_of as place_in, right_of as right_in, want_of as want_in, wants_of as wants_in, rising_wants, is_colon, join_of, read_of, write_of, acquire_of, serve_of, depart_of, vanish_of, lose_of, event_of as event_of_line, is_unbuilt as begins_unbuilt, is_unbuilt_verb as among_unbuilt, is_comment as begins_comment, parsed_words as words_parsed, parsed_line as line_parsed};
 
 use casper_model::Event;
 use casper_text::{Span, number, small_number, words_into};
@@ -72,6 +72,10 @@ fn event_of(line: &[u8], spans: &[Span]) -> Option<Event>
         serve(line, rest)
     } else if verb == b"depart".as_slice() {
         depart(line, rest)
+    } else if verb == b"vanish".as_slice() {
+        vanish(line, rest)
+    } else if verb == b"lose".as_slice() {
+        lose(line, rest)
     } else {
         None
     }
@@ -96,6 +100,20 @@ fn depart(line: &[u8], rest: &[Span]) -> Option<Event>
     ensures { result ≡ depart_of (map (word_at line.now) rest.now) }
 {
     Some(Event::Depart(lone_client(line, rest)?))
+}
+
+fn vanish(line: &[u8], rest: &[Span]) -> Option<Event>
+    requires { All (IsWithin line.now) rest.now }
+    ensures { result ≡ vanish_of (map (word_at line.now) rest.now) }
+{
+    Some(Event::Vanish(lone_client(line, rest)?))
+}
+
+fn lose(line: &[u8], rest: &[Span]) -> Option<Event>
+    requires { All (IsWithin line.now) rest.now }
+    ensures { result ≡ lose_of (map (word_at line.now) rest.now) }
+{
+    Some(Event::Lose(lone_client(line, rest)?))
 }
 
 fn read(line: &[u8], rest: &[Span]) -> Option<Event>
@@ -230,7 +248,5 @@ fn is_unbuilt_verb(first: &[u8]) -> bool
         || first == b"writeout".as_slice()
         || first == b"finish".as_slice()
         || first == b"settle".as_slice()
-        || first == b"vanish".as_slice()
-        || first == b"lose".as_slice()
         || first == b"reopen".as_slice()
 }

@@ -4,6 +4,8 @@
 #[cfg(test)]
 mod first_path;
 #[cfg(test)]
+mod losses;
+#[cfg(test)]
 mod recalls;
 #[cfg(test)]
 mod replaying;

@@ -38,13 +38,11 @@ fn rows(rt: HostRuntime) -> Result<(), Fail> {
 /// Lines of a known form that are not built yet.
 #[test]
 fn unbuilt_lines(rt: HostRuntime) -> Result<(), Fail> {
-    let lines: [&str; 9] = [
+    let lines: [&str; 7] = [
         "stabilise 1",
         "writeout 1",
         "finish 1",
         "settle",
-        "vanish 1",
-        "lose 1",
         "reopen",
         "1 new 1 2",
         "32 names",
