@@ -58,12 +58,11 @@ sql() {
                 printf "UPDATE page SET bytes = randomblob(4096) WHERE number = %d;\n", at * stretch + int(rand() * stretch)
             print "COMMIT;"
         }
-        print "SELECT 0 LIMIT 0;"
     }' >"$work/sql"
 }
 
 run_sql() {
-    sqlite3 "$work/sqlite" <"$work/sql" | tail -n 0
+    sqlite3 "$work/sqlite" <"$work/sql" >"$work/modes"
 }
 
 # A table of 16,384 pages, each a blob of 4,096 bytes.
