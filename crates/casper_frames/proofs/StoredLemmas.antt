@@ -11,6 +11,11 @@ unwrapped : {X : Type 0} (o : Option X) (other : X) → IsSome o → o ≡ Some 
 unwrapped None other is = cc
 unwrapped (Some x) other is = refl
 
+-- nothing is not there
+not_there : {X : Type 0} (o : Option X) → o ≡ None → IsSome o → ⊥
+not_there None none is = cc
+not_there (Some x) none is = cc
+
 -- a page that the index does not name has no frame
 pub shown-absent : (frames : Slab (List ℕ)) (test : ℕ → Bool) (index : List (ℕ × ℕ)) →
     lookup test index ≡ None → lookup test (shown frames index) ≡ None
@@ -68,7 +73,7 @@ pub free-vacant : (frames : Slab (List ℕ)) (key : ℕ) (index : List (ℕ × �
     AreStored frames index → get frames key ≡ None → IsFree key index
 free-vacant frames key [] stored none = tt
 free-vacant frames key (entry ∷ rest) stored none =
-    (λ same. let is : IsSome (None {T = List ℕ}) = subst IsSome (ap (get frames) same ∙ none) stored.0 in cc, free-vacant frames key rest stored.1 none)
+    (λ same. not_there (get frames entry.1) (ap (get frames) same ∙ none) stored.0, free-vacant frames key rest stored.1 none)
 
 -- an index without a page
 pub shown-remove : (frames : Slab (List ℕ)) (test : ℕ → Bool) (index : List (ℕ × ℕ)) →

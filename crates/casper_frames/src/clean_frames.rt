@@ -97,11 +97,13 @@ impl CleanFrames {
         if self.frames.reserve(1).is_err() {
             return Err((frame, Memory));
         }
-        if self.index.put(page, self.frames.vacant_key()).is_err() {
-            return Err((frame, Memory));
+        match self.index.put(page, self.frames.vacant_key()) {
+            Ok(_) => {
+                self.frames.insert_reserved(frame);
+                Ok(())
+            }
+            Err(_) => Err((frame, Memory)),
         }
-        self.frames.insert_reserved(frame);
-        Ok(())
     }
 
     /// Keeps a new page in the place of the one kept longest ago, and answers that one.
@@ -116,11 +118,13 @@ impl CleanFrames {
     {
         let (last, key) = self.index.peek_lru().unwrap();
         let (last, key) = (*last, *key);
-        if self.index.put(page, key).is_err() {
-            return Err((frame, Memory));
+        match self.index.put(page, key) {
+            Ok(_) => {
+                replace(&mut self.frames, key, frame);
+                Ok(last)
+            }
+            Err(_) => Err((frame, Memory)),
         }
-        replace(&mut self.frames, key, frame);
-        Ok(last)
     }
 
     /// Keeps a page no longer. Where it is not kept, nothing changes.
