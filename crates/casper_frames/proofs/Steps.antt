@@ -1,12 +1,14 @@
-use Rattle.std.proofs.Common.{◌≡◌, ℕ, ◌-◌, ◌≤◌, Bool, true, false, cond, nat_eq, List, [], ◌∷◌, length, take, Option, Some, None, IsSome, slice_get, refl, sym, ap, ◌∙◌, subst, arith}
+use Rattle.std.proofs.Common.{◌≡◌, ℕ, ◌-◌, ◌≤◌, Bool, true, false, cond, nat_eq, List, [], ◌∷◌, length, take, Option, Some, None, IsSome, IsNone, slice_get, option_map, refl, sym, ap, ◌∙◌, subst, arith}
 use Rattle.std.specs.Map.{lookup, lookup_entry, remove_entry}
 use Rattle.std.proofs.lemmas.Bool.{eqb-true}
+use Rattle.std.proofs.lemmas.List.{length-map}
+use Rattle.std.proofs.lemmas.Option.{slice_get-map}
 use Rattle.slab.specs.Slab.{Slab, get, Updates}
 use Rattle.lru.specs.LruCache.{LruCache, promoted, put_entries}
-use Rattle.casper_frames.specs.Keeping.{Keeping, frame_of, others, kept_with, IsSound}
+use Rattle.casper_frames.specs.Keeping.{Keeping, frame_of, others, oldest, kept_with, IsSound}
 use Rattle.casper_frames.specs.Stored.{frame_at, shown, AreStored, IsFree, AreApart}
 use Rattle.casper_frames.proofs.KeepingLemmas.{sound-others, sound-kept_with, kept_with-again, kept_with-new, remove-absent}
-use Rattle.casper_frames.proofs.StoredLemmas.{absent-shown, shown-absent, shown-at, shown-updates, stored-updates, frame_at-updates, stored_at-updates, shown-remove, free-remove, stored-remove, apart-remove, free-removed, stored-at, shown-take, stored-take, apart-take}
+use Rattle.casper_frames.proofs.StoredLemmas.{absent-shown, shown-absent, shown-at, shown-updates, stored-updates, frame_at-updates, stored_at-updates, shown-remove, free-remove, stored-remove, apart-remove, free-removed, stored-at, shown-take, stored-take, apart-take, free-before}
 
 -- what is kept, as the index and the frames show it
 abbrev pub keeping_of : ℕ → Slab (List ℕ) → List (ℕ × ℕ) → Keeping
@@ -125,3 +127,40 @@ added page key frame old new index holds none free updates =
     (kept_with-new page frame (keeping_of index.cap old index.entries) holds.0 none ∙
     ap (λ l. (page, frame) ∷ l) (sym (shown-take old (index.cap - 1) index.entries)))
     updates)
+
+-- a new page takes the place of the one kept longest ago
+pub exchanged : (page last key : ℕ) (frame : List ℕ) (old new : Slab (List ℕ)) (index : LruCache ℕ ℕ) → Holds index.cap old index.entries →
+    frame_of page (shown old index.entries) ≡ None → length (shown old index.entries) ≡ index.cap →
+    slice_get index.entries (length index.entries - 1) ≡ Some (last, key) → Updates old new key (Some frame) →
+    Leads index.cap new (put_entries nat_eq index page key) (kept_with page frame (keeping_of index.cap old index.entries))
+exchanged page last key frame old new index holds none full at updates =
+    let long : length index.entries ≡ index.cap = sym (length-map index.entries (λ (entry : ℕ × ℕ). (entry.0, frame_at old entry.1))) ∙ full in
+    let free : IsFree key (take (index.cap - 1) index.entries) =
+    subst (λ n. IsFree key (take (n - 1) index.entries)) long
+    (free-before index.entries (length index.entries - 1) (last, key) holds.2 at) in
+    added page key frame old new index holds none free updates
+
+-- the last page of the index is the one kept longest ago
+pub oldest-last : (last key : ℕ) (frames : Slab (List ℕ)) (index : List (ℕ × ℕ)) → slice_get index (length index - 1) ≡ Some (last, key) →
+    oldest (shown frames index) ≡ Some last
+oldest-last last key frames index at =
+    let show : (ℕ × ℕ) → (ℕ × List ℕ) = λ entry. (entry.0, frame_at frames entry.1) in
+    ap (λ n. option_map (λ (entry : ℕ × List ℕ). entry.0) (slice_get (shown frames index) (n - 1))) (length-map index show) ∙
+    ap (option_map (λ (entry : ℕ × List ℕ). entry.0)) (slice_get-map show index (length index - 1) ∙ ap (option_map show) at)
+
+-- a page that the index does not name is not kept
+pub absent-now : (page bound : ℕ) (frames : Slab (List ℕ)) (index : List (ℕ × ℕ)) (keeping : Keeping) → lookup (nat_eq page) index ≡ None →
+    keeping_of bound frames index ≡ keeping → frame_of page keeping.kept ≡ None
+absent-now page bound frames index keeping none same =
+    sym (ap (λ k. frame_of page k.kept) same) ∙ shown-absent frames (nat_eq page) index none
+
+-- a page that the index names is kept
+pub kept-now : (page key bound : ℕ) (frames : Slab (List ℕ)) (index : List (ℕ × ℕ)) (keeping : Keeping) → AreStored frames index →
+    lookup (nat_eq page) index ≡ Some key → keeping_of bound frames index ≡ keeping → IsSome (frame_of page keeping.kept)
+kept-now page key bound frames index keeping stored found same =
+    subst (λ k. IsSome (frame_of page k.kept)) same
+    (subst IsSome (shown-at frames (nat_eq page) index key stored found) (stored-at frames (nat_eq page) index key stored found))
+
+pub not_both : {X : Type 0} (o : Option X) → IsNone o → IsSome o → ⊥
+not_both None none is = cc
+not_both (Some x) none is = cc

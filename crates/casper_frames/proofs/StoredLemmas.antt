@@ -12,7 +12,7 @@ unwrapped None other is = cc
 unwrapped (Some x) other is = refl
 
 -- nothing is not there
-not_there : {X : Type 0} (o : Option X) → o ≡ None → IsSome o → ⊥
+pub not_there : {X : Type 0} (o : Option X) → o ≡ None → IsSome o → ⊥
 not_there None none is = cc
 not_there (Some x) none is = cc
 

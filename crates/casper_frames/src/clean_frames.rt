@@ -93,6 +93,7 @@ impl CleanFrames {
             ≡ record self.old { kept = kept_with page frame self.old }) }
         ensures err { OnErr result (self.new ≡ self.old) }
         ensures returned { IfErr result (λ refusal. refusal.0 ≡ frame) }
+        ensures sound { IsSound self.new }
     {
         if self.frames.reserve(1).is_err() {
             return Err((frame, Memory));
@@ -115,6 +116,7 @@ impl CleanFrames {
         ensures oldest { IfOk result (λ dropped. oldest self.old.kept ≡ Some dropped) }
         ensures err { OnErr result (self.new ≡ self.old) }
         ensures returned { IfErr result (λ refusal. refusal.0 ≡ frame) }
+        ensures sound { IsSound self.new }
     {
         let (last, key) = self.index.peek_lru().unwrap();
         let (last, key) = (*last, *key);
@@ -145,3 +147,6 @@ fn replace(frames: &mut Slab<Frame>, key: usize, frame: Frame)
 {
     frames[key] = frame;
 }
+
+#[cfg(test)]
+mod tests;

@@ -40,3 +40,6 @@ pub returns-in-Ok-clause-kept : goal.returns-in-Ok-clause-kept
 returns-in-Ok-clause-kept c =
     let shows = (step c).shows ∙ ap (λ k. kept_with c.args.page c.args.frame k) c.self.view_is in
     rw c.in-Ok.ensures.entries (λ i. record { bound = (c.self.view_is i).bound; kept = shows i })
+
+pub returns-in-Ok-clause-sound : goal.returns-in-Ok-clause-sound
+returns-in-Ok-clause-sound c = rw c.in-Ok.ensures.entries (step c).holds.0
