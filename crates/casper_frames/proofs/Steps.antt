@@ -1,14 +1,14 @@
-use Rattle.std.proofs.Common.{◌≡◌, ℕ, ◌-◌, ◌≤◌, Bool, true, false, cond, nat_eq, List, [], ◌∷◌, length, take, Option, Some, None, IsSome, IsNone, slice_get, option_map, refl, sym, ap, ◌∙◌, subst, arith}
+use Rattle.std.proofs.Common.{◌≡◌, ℕ, ◌-◌, Bool, true, false, cond, nat_eq, List, [], ◌∷◌, length, take, Option, Some, None, IsSome, IsNone, slice_get, option_map, refl, sym, ap, ◌∙◌, subst}
 use Rattle.std.specs.Map.{lookup, lookup_entry, remove_entry}
 use Rattle.std.proofs.lemmas.Bool.{eqb-true}
 use Rattle.std.proofs.lemmas.List.{length-map}
 use Rattle.std.proofs.lemmas.Option.{slice_get-map}
-use Rattle.slab.specs.Slab.{Slab, get, Updates}
+use Rattle.slab.specs.Slab.{Slab, Updates}
 use Rattle.lru.specs.LruCache.{LruCache, promoted, put_entries}
 use Rattle.casper_frames.specs.Keeping.{Keeping, frame_of, others, oldest, kept_with, IsSound}
 use Rattle.casper_frames.specs.Stored.{frame_at, shown, AreStored, IsFree, AreApart}
 use Rattle.casper_frames.proofs.KeepingLemmas.{sound-others, sound-kept_with, kept_with-again, kept_with-new, remove-absent}
-use Rattle.casper_frames.proofs.StoredLemmas.{absent-shown, shown-absent, shown-at, shown-updates, stored-updates, frame_at-updates, stored_at-updates, shown-remove, free-remove, stored-remove, apart-remove, free-removed, stored-at, shown-take, stored-take, apart-take, free-before}
+use Rattle.casper_frames.proofs.StoredLemmas.{absent-shown, shown-absent, shown-at, shown-updates, stored-updates, frame_at-updates, stored_at-updates, shown-remove, stored-remove, apart-remove, free-removed, stored-at, shown-take, stored-take, apart-take, free-before}
 
 -- what is kept, as the index and the frames show it
 abbrev pub keeping_of : ℕ → Slab (List ℕ) → List (ℕ × ℕ) → Keeping

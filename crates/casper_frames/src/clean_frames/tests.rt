@@ -31,7 +31,7 @@ fn drops_in_the_order_of_keeping(rt: HostRuntime) -> Result<(), Fail> {
     for (page, dropped) in table {
         let frame = Frame::zero(rt.alloc())?;
         let kept = clean.keep(Page(page), frame).map_err(|refused| refused.1)?;
-        assert_eq!(rt; kept, dropped.map(Page));
+        assert_eq!(rt; kept, dropped.map(|page| Page(page)));
     }
     Ok(())
 }

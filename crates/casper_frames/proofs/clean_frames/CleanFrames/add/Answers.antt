@@ -1,4 +1,4 @@
-use Rattle.std.proofs.Common.{◌≡◌, ◌∙◌, ap, sym, subst, refl, nat_eq, None, Some, ◌-◌, take}
+use Rattle.std.proofs.Common.{◌≡◌, ◌∙◌, ap, sym, subst, refl, nat_eq, None, Some, ◌-◌}
 use Rattle.slab.specs.Slab.{Updates}
 use Rattle.lru.specs.LruCache.{put_entries}
 use Rattle.casper_frames.specs.Keeping.{frame_of, kept_with}

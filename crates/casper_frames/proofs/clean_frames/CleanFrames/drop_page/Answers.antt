@@ -1,8 +1,8 @@
-use Rattle.std.proofs.Common.{◌≡◌, ◌∙◌, ap, sym, subst, nat_eq, Some}
+use Rattle.std.proofs.Common.{◌∙◌, ap, sym, nat_eq}
 use Rattle.std.specs.Map.{remove_entry}
 use Rattle.casper_frames.specs.Keeping.{others}
 use Rattle.casper_frames.specs.Stored.{shown}
-use Rattle.casper_frames.proofs.Steps.{Leads, Holds, removed, unmoved}
+use Rattle.casper_frames.proofs.Steps.{Leads, removed, unmoved}
 use Rattle.casper_frames.proofs.StoredLemmas.{stored-at}
 use Rattle.casper_frames.proofs.clean_frames.CleanFrames.drop_page.Goals as goal
 

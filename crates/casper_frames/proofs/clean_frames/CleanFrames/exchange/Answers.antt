@@ -1,4 +1,4 @@
-use Rattle.std.proofs.Common.{◌≡◌, ◌∙◌, ◌-◌, ap, sym, subst, nat_eq, length, slice_get, None, Some}
+use Rattle.std.proofs.Common.{◌∙◌, ◌-◌, ap, sym, nat_eq, length}
 use Rattle.std.specs.Option.{option_map}
 use Rattle.std.specs.Map.Iter.{deref_pair}
 use Rattle.lru.specs.LruCache.{put_entries}

@@ -1,4 +1,4 @@
-use Rattle.std.proofs.Common.{◌≡◌, ◌∙◌, ap, sym, subst, nat_eq}
+use Rattle.std.proofs.Common.{◌∙◌, ap, sym, nat_eq}
 use Rattle.std.specs.Option.{option_copied}
 use Rattle.casper_frames.specs.Keeping.{frame_of}
 use Rattle.casper_frames.proofs.StoredLemmas.{shown-absent, shown-at}

@@ -1,5 +1,4 @@
-use Rattle.std.proofs.Common.{◌≡◌, ◌∙◌, ap, sym, subst, nat_eq, None, Some}
-use Rattle.std.specs.Map.{lookup}
+use Rattle.std.proofs.Common.{◌∙◌, ap, sym, nat_eq}
 use Rattle.lru.specs.LruCache.{promoted}
 use Rattle.casper_frames.specs.Keeping.{frame_of, kept_with}
 use Rattle.casper_frames.proofs.Steps.{Leads, keeping_of, replaced, absent-now, kept-now, not_both}
