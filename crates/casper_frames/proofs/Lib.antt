@@ -1,0 +1,3 @@
+mod KeepingLemmas
+mod StoredLemmas
+mod Steps
