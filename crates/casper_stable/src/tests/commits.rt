@@ -1,7 +1,7 @@
 use crate::Stable;
 use crate::tests::{commit_three, found, left, opened};
-use casper_disk::{CommitFault, Fail as Failing, Kind, MemDisk, Pick, Vault};
-use casper_words::{Frame, Page};
+use casper_disk::{CommitFault, DiskFault, Fail as Failing, Kind, MemDisk, Pick, Vault};
+use casper_words::{Frame, Memory, Page};
 use std::alloc::Global;
 use std::process::Abort;
 use std::test::Fail;
@@ -158,6 +158,11 @@ fn fails_as(rt: &impl Abort, alloc: Global, commits: u64, row: Row) -> Result<()
     Ok(())
 }
 
+/// Settles, as a call of its own.
+fn settled(stable: &mut Stable<MemDisk>) -> Result<u64, DiskFault> {
+    stable.settle()
+}
+
 #[test]
 fn settles_forward(rt: HostRuntime) -> Result<(), Fail> {
     let alloc = rt.alloc();
@@ -168,17 +173,42 @@ fn settles_forward(rt: HostRuntime) -> Result<(), Fail> {
         };
         let fails = [Failing { kind, number }, again];
         let mut stable = store_after(&rt, alloc, 1, &fails)?;
-        assert_eq!(rt;
-            commit_three(&rt, alloc, &mut stable, 2)?,
-            Err(CommitFault::Doubt)
-        );
-        assert!(rt; stable.settle().is_err());
+        let fault = CommitFault::Doubt;
+        assert_eq!(rt; commit_three(&rt, alloc, &mut stable, 2)?, Err(fault));
+        assert_eq!(rt; settled(&mut stable), Err(DiskFault::Failed));
         assert!(rt; stable.in_doubt());
-        assert_eq!(rt; stable.settle(), Ok(3));
-        assert_eq!(rt; stable.settle(), Ok(3));
+        assert_eq!(rt; settled(&mut stable), Ok(3));
+        assert_eq!(rt; settled(&mut stable), Ok(3));
         assert_eq!(rt; found(&rt, alloc, stable.into_disk())?, (3, 2));
     }
     Ok(())
+}
+
+/// Commits zeros to page 0.
+fn commit_one(
+    rt: &impl Abort,
+    alloc: Global,
+    stable: &mut Stable<MemDisk>,
+) -> Result<Result<u64, CommitFault>, Memory> {
+    assert!(rt; stable.pages() >= 1);
+    assert!(rt; !stable.in_doubt());
+    let change = [(Page(0), Frame::zero(alloc)?)];
+    Ok(stable.commit(alloc, &change))
+}
+
+/// Commits zeros to page 0 and to the first page of the second map block.
+fn commit_two(
+    rt: &impl Abort,
+    alloc: Global,
+    stable: &mut Stable<MemDisk>,
+) -> Result<Result<u64, CommitFault>, Memory> {
+    assert!(rt; stable.pages() >= 1025);
+    assert!(rt; !stable.in_doubt());
+    let changes = [
+        (Page(0), Frame::zero(alloc)?),
+        (Page(1024), Frame::zero(alloc)?),
+    ];
+    Ok(stable.commit(alloc, &changes))
 }
 
 /// Two pages of two map blocks need four frames. A page that has a frame needs a new one, and a new frame for its map block.
@@ -190,22 +220,11 @@ fn needs_a_frame_for_each_page_and_map_block(rt: HostRuntime) -> Result<(), Fail
         Ok(stable) => stable,
         Err(_) => return Err("format")?,
     };
-    assert!(rt; stable.pages() >= 2048);
-    assert!(rt; !stable.in_doubt());
-    let two = [
-        (Page(0), Frame::zero(alloc)?),
-        (Page(1024), Frame::zero(alloc)?),
-    ];
     let full = CommitFault::Full { need: 4, free: 3 };
-    assert_eq!(rt; stable.commit(alloc, &two), Err(full));
-    assert!(rt; !stable.in_doubt());
-    assert!(rt; stable.pages() >= 2048);
-    let one = [(Page(0), Frame::zero(alloc)?)];
-    assert_eq!(rt; stable.commit(alloc, &one), Ok(2));
+    assert_eq!(rt; commit_two(&rt, alloc, &mut stable)?, Err(full));
+    assert_eq!(rt; commit_one(&rt, alloc, &mut stable)?, Ok(2));
     assert_eq!(rt; (stable.used(), stable.frames()), (2, 3));
-    assert!(rt; !stable.in_doubt());
-    assert!(rt; stable.pages() >= 2048);
     let full = CommitFault::Full { need: 2, free: 1 };
-    assert_eq!(rt; stable.commit(alloc, &one), Err(full));
+    assert_eq!(rt; commit_one(&rt, alloc, &mut stable)?, Err(full));
     Ok(())
 }

@@ -1,9 +1,8 @@
-use crate::Stable;
-use crate::tests::opened;
 use crate::tests::opening::{Patch, new_store, overwrite, refusal};
+use crate::tests::{commit_three, opened};
 use casper_disk::{CommitFault, Disk, MemDisk, Vault};
 use casper_root::OpenFault;
-use casper_words::{Block, Frame, Page};
+use casper_words::Block;
 use std::alloc::Global;
 use std::test::Fail;
 
@@ -73,10 +72,9 @@ fn ends_at_the_last_version(rt: HostRuntime) -> Result<(), Fail> {
     let alloc = rt.alloc();
     let place = |from, bytes| Patch { at: 1, from, bytes };
     let disk = patched(alloc, &[place(0, [0xFF; 4]), place(4, [0xFF, 0xFF, 0, 0])])?;
-    let mut stable: Stable<MemDisk> = opened(alloc, disk)?;
+    let mut stable = opened(alloc, disk)?;
     assert_eq!(rt; stable.version(), 281_474_976_710_655);
-    let change = [(Page(0), Frame::zero(alloc)?)];
-    assert!(rt; !stable.in_doubt() && stable.pages() >= 1);
-    assert_eq!(rt; stable.commit(alloc, &change), Err(CommitFault::Worn));
+    let worn = commit_three(&rt, alloc, &mut stable, 1)?;
+    assert_eq!(rt; worn, Err(CommitFault::Worn));
     Ok(())
 }
