@@ -1,3 +1,4 @@
+mod ChangeLaws
 mod KeepingLemmas
-mod StoredLemmas
 mod Steps
+mod StoredLemmas

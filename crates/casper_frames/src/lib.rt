@@ -2,5 +2,7 @@
 #![tactic(auto)]
 
 mod clean_frames;
+mod laws;
 
 pub use clean_frames::CleanFrames;
+pub use laws::keeping_laws;
