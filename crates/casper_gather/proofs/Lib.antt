@@ -1,2 +1,4 @@
+mod Asking
+mod Shown
 pub mod Awaited
 pub mod Outcomes

@@ -1,6 +1,7 @@
 ghost use Rattle.casper_gather.specs.AskerLaws.{LeadIsAsker, WhoAsksIsAsker, OtherAskersStay, WhoIsGoneIsNoAsker, OtherAskersAreKept, AskersAreToldOnce};
 ghost use Rattle.casper_gather.specs.FinishLaws.{FinishCarriesOut, NotedLossIsCarriedOut, FailureIsTold, DoubtKeepsTheLoss};
 ghost use Rattle.casper_gather.specs.GatherLaws.{BegunGathers, BegunSealed, GathersForTheOthers, LastMemberSeals};
+ghost use Rattle.casper_gather.specs.UnendedLaws.{FoundByLead, FoundByMembers, FoundInDoubt, ChangedAsInTheMachine, EndedAsInTheMachine, ForgottenAsInTheMachine, BegunAsInTheMachine};
 
 /// The laws of gathering: how long it lasts and what ends it, as contracts of a call that does nothing.
 pub fn gather_laws()
@@ -26,4 +27,16 @@ pub fn finish_laws()
     ensures loss { NotedLossIsCarriedOut }
     ensures told { FailureIsTold }
     ensures doubt { DoubtKeepsTheLoss }
+{}
+
+/// The laws of the stabilisations that have not ended: they are found, begin, change and end as in the machine, as contracts of a call
+/// that does nothing.
+pub fn unended_laws()
+    ensures found { FoundByLead }
+    ensures by_members { FoundByMembers }
+    ensures in_doubt { FoundInDoubt }
+    ensures begun { BegunAsInTheMachine }
+    ensures changed { ChangedAsInTheMachine }
+    ensures ended { EndedAsInTheMachine }
+    ensures forgotten { ForgottenAsInTheMachine }
 {}
