@@ -10,26 +10,29 @@ pub record UnendedView : Type 0 where
   pub each : List Stab
   pub room : ℕ
 
--- whether one is sealed and was not written out, and whether it is in doubt
+-- whether a stabilisation in this phase is sealed and was not written out
 abbrev pub is_sealed : Phase → Bool
 is_sealed phase.Gathering = false
 is_sealed phase.Sealed = true
 is_sealed phase.Written = false
 is_sealed phase.Doubt = false
 
+-- whether one in this phase is in doubt
 abbrev pub is_doubtful : Phase → Bool
 is_doubtful phase.Gathering = false
 is_doubtful phase.Sealed = false
 is_doubtful phase.Written = false
 is_doubtful phase.Doubt = true
 
--- the first one with this lead, the first one of which a member of these is the lead, and the first one in a phase
+-- the first one with this lead
 abbrev pub led_by : ℕ → List Stab → Option Stab
 led_by lead each = find (λ one. one.lead == lead) each
 
+-- the first one whose lead is among these
 abbrev pub led_among : List ℕ → List Stab → Option Stab
 led_among members each = find (λ one. has_member one.lead members) each
 
+-- the first one in such a phase
 abbrev pub first_in : (Phase → Bool) → List Stab → Option Stab
 first_in test each = find (λ one. test one.phase) each
 
