@@ -14,7 +14,7 @@ forgotten who one after gone phase label =
     let askers : after.askers ≡ without who one.askers = ap {A = Stabilisation} (λ s. s.askers) gone in
     let noted : after.noted ≡ one.noted = ap {A = Stabilisation} (λ s. s.noted) gone in
     let so : record after { lead = after.lead; label = after.label; left = after.left; askers = after.askers; noted = after.noted; phase = after.phase }
-        ≡ record one { askers = without who one.askers } = cc in
+    ≡ record one { askers = without who one.askers } = cc in
     so
 
 -- what a choice gives

@@ -86,7 +86,7 @@ pub changed_alike : ChangedAsInTheMachine
 changed_alike change one changed each alone led is =
     map_shown stabilisation_of (λ other. cond (other.lead == changed.lead) changed other) (λ other. cond (other.lead == changed.lead) (change other) other) each
     (λ other inside. change_step change changed other (other.lead == changed.lead)
-        (λ same. let lead : other.lead ≡ changed.lead = eqb-true _ _ same in
-            let found : led_by changed.lead each ≡ Some other = rw (sym lead) (alone other inside) in
-            let this : one ≡ other = cc in
-            cc))
+    (λ same. let lead : other.lead ≡ changed.lead = eqb-true _ _ same in
+    let found : led_by changed.lead each ≡ Some other = rw (sym lead) (alone other inside) in
+    let this : one ≡ other = cc in
+    cc))

@@ -18,7 +18,10 @@ fn they_begin_change_and_end(rt: HostRuntime) -> Result<(), Fail> {
     second.handed(three);
     all.change(second);
     assert_eq!(rt; all.first_sealed(), Some(second));
-    assert_eq!(rt; all.led_among(Crew::none().with(two).with(three)), Some(second));
+    assert_eq!(rt;
+        all.led_among(Crew::none().with(two).with(three)),
+        Some(second)
+    );
     assert_eq!(rt; all.doubtful(), None);
     all.forget(two);
     second.forget(two);

@@ -190,4 +190,3 @@ returns-clause-sound g c =
     subst (λ caches. IsSound (record (placed core c.number-place.result c.vanish-loss.new.self None core.calls core.vault core.size core.told) { caches = caches })) (sym twice)
     (sound_left vanish of_vanish (event.Vanish c.args.who) core c.number-place.result c.args.who same client (vanish_is c.args.who client) sound c.in-Some.cache found c.vanish-loss.new.self c.vanish-loss.new.cache c.vanish-loss.result ensured.turn left ensured.client_after ensured.others ensured.sound
     core.calls core.vault core.size core.told refl sound.sure)
-

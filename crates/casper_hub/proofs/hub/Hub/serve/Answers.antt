@@ -91,12 +91,16 @@ open-requires-clause-calls c =
     (up_inside c.self.inside.clients c.args.who c.fall.result c.fall.ensures c.in_default.not-Some)))
 
 pub invariant_of-self-2 : goal.invariant_of-self-2
-invariant_of-self-2 c = ((whole_after c).sound, (whole_after c).plain, record {
+invariant_of-self-2 c = (
+  (whole_after c).sound,
+  (whole_after c).plain,
+  record {
     limit = c.open.ensures.limit ∙ c.reserve.ensures.limit ∙ c.self.invariant.2.limit;
     associations = c.open.ensures.associations;
     pages = c.open.ensures.pages_stay ∙ c.self.invariant.2.pages ∙ sym c.open.ensures.opens.gives.rights_count;
     room = room_for_all c.open.new.clients c.open.new.trail.room (whole_after c).places (room_left c);
-  })
+  },
+)
 
 pub returns-clause-turn : goal.returns-clause-turn
 returns-clause-turn c = turn c
