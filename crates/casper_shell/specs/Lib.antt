@@ -1,0 +1,4 @@
+pub mod Answers
+pub mod Holding
+pub mod Lines
+pub mod Making

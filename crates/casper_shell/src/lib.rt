@@ -1,0 +1,16 @@
+//! One line on objects and names, over a session that holds the line's pages.
+#![tactic(auto)]
+
+mod answer;
+mod holding;
+mod line;
+mod making;
+mod refusal;
+mod running;
+mod session;
+
+pub use answer::ShellAnswer;
+pub use line::ShellLine;
+pub use refusal::HoldRefusal;
+pub use running::run_line;
+pub use session::{CALLS_OF_LINE, Session};
