@@ -70,11 +70,14 @@ pub(crate) fn hold_pages<Y: Session>(session: &mut Y, line: &ShellLine) -> Resul
 {
     match *line {
         ShellLine::New { page, .. } => hold_to_write(session, page),
-        ShellLine::Set { r, .. } | ShellLine::Free { r } => hold_to_write(session, r.page),
+        ShellLine::Set { r, .. } => hold_to_write(session, r.page),
         ShellLine::SetRef { r, to, .. } => hold_both(session, r.page, to.page),
-        ShellLine::Get { r, .. } | ShellLine::Follow { r, .. } => hold_to_read(session, r.page),
+        ShellLine::Get { r, .. } => hold_to_read(session, r.page),
+        ShellLine::Follow { r, .. } => hold_to_read(session, r.page),
+        ShellLine::Free { r } => hold_to_write(session, r.page),
         ShellLine::Bind { r, .. } => hold_both(session, NAMES, r.page),
         ShellLine::Unbind { .. } => hold_to_write(session, NAMES),
-        ShellLine::Find { .. } | ShellLine::Names => hold_to_read(session, NAMES),
+        ShellLine::Find { .. } => hold_to_read(session, NAMES),
+        ShellLine::Names => hold_to_read(session, NAMES),
     }
 }

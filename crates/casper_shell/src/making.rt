@@ -1,5 +1,6 @@
 ghost use Rattle.std.specs.Prelude.{◌≡◌, ◌<◌, ◌≤◌, [], Some, IsSome};
 ghost use Rattle.casper_space.specs.WordCalls.{HasMade};
+ghost use Rattle.casper_shell.specs.declared.line.ShellLine.TheVariants.{Names};
 ghost use Rattle.casper_shell.specs.Holding.{Holds};
 ghost use Rattle.casper_shell.specs.Lines.{wants_of, HasFields};
 ghost use Rattle.casper_shell.specs.Answers.{answer_of, calls_of, told_new, told_done, told_value, told_place, told_bound, told_unbound, told_found, heap_refusal};

@@ -1,8 +1,7 @@
 ghost use Rattle.std.specs.Prelude.{◌≡◌, ◌<◌, ◌≤◌, true, false, [], Some, Ok, Err, IfOk, IsSome, OnErr, OnOk};
 ghost use Rattle.casper_shell.specs.declared.line.ShellLine.TheVariants.{Names};
-ghost use Rattle.casper_shell.specs.declared.answer.ShellAnswer.TheVariants.{Range};
 ghost use Rattle.casper_shell.specs.Lines.{is_heap_page, is_heap_word, is_within, HasFields};
-ghost use Rattle.casper_shell.specs.Making.{IsMade};
+ghost use Rattle.casper_shell.specs.Making.{IsRun};
 
 use crate::holding::hold_pages;
 use crate::making::make_calls;
@@ -38,7 +37,7 @@ fn is_in_store(pages: u32, line: &ShellLine) -> bool
     }
 }
 
-/// The list that a line needs, if it needs one.
+/// The list that a line puts the names into, if it lists them.
 fn list_for(alloc: Global, line: &ShellLine) -> Result<Option<NameList>, Memory>
     ensures list { line.now ≡ Names → IfOk result (λ names. names ≡ Some []) }
     ensures others { OnErr result (line.now ≡ Names) }
@@ -59,10 +58,8 @@ pub fn run_line<Y: Session>(
     requires store { pages ≡ Y.pages session.old }
     requires some { 1 ≤ pages }
     requires fields { HasFields line.now }
-    ensures range { is_within pages line.now ≡ false → result ≡ Ok Range }
-    ensures out { is_within pages line.now ≡ false → session.new ≡ session.old }
-    ensures ran { OnOk result (is_within pages line.now ≡ true
-        → IsMade Y.seen Y.step Y.turn pages line.now session.old result session.new) }
+    ensures ran { IsRun Y.seen Y.step Y.turn pages line.now session.old result session.new }
+    ensures store { Y.pages session.new ≡ Y.pages session.old }
 {
     if !is_in_store(pages, line) {
         return Ok(ShellAnswer::Range);
