@@ -2,3 +2,4 @@ pub mod Answers
 pub mod Holding
 pub mod Lines
 pub mod Making
+pub mod OverPlain

@@ -5,6 +5,7 @@ mod answer;
 mod holding;
 mod line;
 mod making;
+mod plain;
 mod refusal;
 mod running;
 mod session;
