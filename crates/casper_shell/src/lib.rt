@@ -9,6 +9,8 @@ mod plain;
 mod refusal;
 mod running;
 mod session;
+#[cfg(test)]
+mod tests;
 
 pub use answer::ShellAnswer;
 pub use line::ShellLine;
