@@ -3,3 +3,4 @@ pub mod Holding
 pub mod Lines
 pub mod Making
 pub mod OverPlain
+pub mod Writing

@@ -6,6 +6,7 @@ mod holding;
 mod line;
 mod making;
 mod plain;
+mod reading;
 mod refusal;
 mod running;
 mod session;
@@ -14,6 +15,7 @@ mod tests;
 
 pub use answer::ShellAnswer;
 pub use line::ShellLine;
+pub use reading::shell_line;
 pub use refusal::HoldRefusal;
 pub use running::run_line;
 pub use session::{CALLS_OF_LINE, Session};
