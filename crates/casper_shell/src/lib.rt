@@ -3,6 +3,7 @@
 
 mod answer;
 mod holding;
+mod laws;
 mod line;
 mod making;
 mod plain;
@@ -14,6 +15,7 @@ mod session;
 mod tests;
 
 pub use answer::ShellAnswer;
+pub use laws::line_laws;
 pub use line::ShellLine;
 pub use reading::shell_line;
 pub use refusal::HoldRefusal;
