@@ -5,7 +5,7 @@ use Rattle.casper_words.specs.declared.call.Call.{Call}
 use Rattle.casper_words.specs.declared.call.Op.{Op}
 use Rattle.casper_words.specs.declared.call.Op.TheVariants as op
 use Rattle.casper_words.specs.declared.page.Want.{Want}
-use Rattle.casper_space.specs.Plain.{PlainPages, PlainStep, page_of, pages_after_op}
+use Rattle.casper_space.specs.Plain.{PlainPages, PlainStep, pages_after_op}
 use Rattle.casper_shell.specs.declared.refusal.HoldRefusal.{HoldRefusal}
 
 -- a hold of pages in memory changes nothing
