@@ -1,5 +1,6 @@
-use crate::{ShellAnswer, ShellLine, run_line};
+use crate::{ShellAnswer, ShellLine, run_line, shell_line};
 use casper_space::{Answer, Plain, Words};
+use casper_text::words_of;
 use casper_words::{Memory, Name, Page, Ref};
 use std::alloc::Global;
 use std::process::Abort;
@@ -175,5 +176,31 @@ fn a_line_needs_room_and_place(rt: HostRuntime) -> Result<(), Fail> {
     }
     let given = run(&rt, rt.alloc(), &mut plain, &new(2, 64))?;
     assert_eq!(rt; told(&given), ("pagefull", 0, 0));
+    Ok(())
+}
+
+#[test]
+fn forms_of_lines(rt: HostRuntime) -> Result<(), Fail> {
+    let desk = Name::new(b"desk").ok_or("no name")?;
+    let forms: [(&[u8], Option<ShellLine>); 14] = [
+        (b"new 1 64", Some(new(1, 64))),
+        (b"new 1 65", None),
+        (b"set 1.1 0 42", Some(set(0, 42))),
+        (b"ref 1.1 1 2.1", Some(lead(1, 2, 1))),
+        (b"get 1.1 0", Some(get(1, 1, 0))),
+        (b"get 1 0", None),
+        (b"follow 1.1 1", Some(follow(1, 1, 1))),
+        (b"free 1.1", Some(free(1, 1))),
+        (b"bind desk 1.1", Some(bind(&desk))),
+        (b"bind Desk 1.1", None),
+        (b"unbind desk", Some(unbind(&desk))),
+        (b" find  desk ", Some(find(&desk))),
+        (b"names", Some(ShellLine::Names)),
+        (b"names desk", None),
+    ];
+    for (text, line) in &forms {
+        let words = words_of(rt.alloc(), text)?.ok_or("a byte that no line has")?;
+        assert_eq!(rt; shell_line(text, &words), *line);
+    }
     Ok(())
 }
