@@ -1,4 +1,5 @@
 pub mod Answers
+pub mod Effects
 pub mod Grammar
 pub mod Holding
 pub mod Lines

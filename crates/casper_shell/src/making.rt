@@ -1,5 +1,8 @@
-ghost use Rattle.std.specs.Prelude.{◌≡◌, ◌<◌, ◌≤◌, [], Some, IsSome};
+ghost use Rattle.std.specs.Prelude.{◌≡◌, ◌≢◌, ◌<◌, ◌≤◌, [], Some, IsSome};
+ghost use Rattle.casper_words.specs.declared.page.Ref.{Ref};
 ghost use Rattle.casper_space.specs.WordCalls.{HasMade};
+ghost use Rattle.casper_heap.specs.Objects.{objects_of};
+ghost use Rattle.casper_shell.specs.Effects.{objects_after};
 ghost use Rattle.casper_shell.specs.declared.line.ShellLine.TheVariants.{Names};
 ghost use Rattle.casper_shell.specs.Holding.{Holds};
 ghost use Rattle.casper_shell.specs.Lines.{wants_of, HasFields};
@@ -114,6 +117,8 @@ pub(crate) fn make_calls<W: Words>(
     ensures answer { result ≡ answer_of pages (W.seen words.old).words line.now }
     ensures made { HasMade W.seen W.step words.old
         (calls_of (W.seen words.old).words line.now) words.new }
+    ensures objects { (r : Ref) → r.page ≢ 0 → objects_of (W.seen words.new).words r
+        ≡ objects_after line.now result (objects_of (W.seen words.old).words) r }
 {
     match line {
         ShellLine::New { page, n } => tell_new(alloc_object(words, *page, *n)),
