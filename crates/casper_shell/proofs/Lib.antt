@@ -1,3 +1,4 @@
+pub mod Frames
 pub mod GrammarLemmas
 pub mod Staying
 pub mod Wanting

@@ -10,15 +10,17 @@ use Rattle.casper_shell.specs.declared.refusal.HoldRefusal.{HoldRefusal}
 use Rattle.casper_shell.specs.declared.refusal.HoldRefusal.TheVariants as refusal
 use Rattle.casper_shell.specs.Lines.{is_within, wants_of}
 use Rattle.casper_heap.specs.Objects.{objects_of}
-use Rattle.casper_shell.specs.Effects.{objects_after}
+use Rattle.casper_names.specs.Table.{entries_of}
+use Rattle.casper_shell.specs.Effects.{objects_after, entries_after}
 use Rattle.casper_shell.specs.Answers.{answer_of, calls_of}
 
 module _ {S : Type 0} (seen : S → HeldWords) (step : S → Call → S → Type 0) (turn : S → List Want → ℕ → Result (Unit {0}) HoldRefusal → S → Type 0) (pages : ℕ) (line : ShellLine) where
-  -- the calls of a line, its answer, and what it does to the objects
+  -- the calls of a line, its answer, and what it does to the objects and to the entries of the table of names
   pub record IsDone (between : S) (result : Result ShellAnswer Memory) (after : S) : Type 0 where
     pub answer : result ≡ Ok (answer_of pages (seen between).words line)
     pub made : HasMade seen step between (calls_of (seen between).words line) after
     pub objects : (r : Ref) → r.page ≢ 0 → objects_of (seen after).words r ≡ objects_after line (answer_of pages (seen between).words line) (objects_of (seen between).words) r
+    pub entries : entries_of ((seen after).words 0) ≡ entries_after line (answer_of pages (seen between).words line) ((seen between).words 0)
 
   -- what comes after the hold of a line: the line is done; or, where the hold was refused, no call is made, and the answer of the hold or its want of memory is the result
   abbrev pub Follows : Result (Unit {0}) HoldRefusal → S → Result ShellAnswer Memory → S → Type 0

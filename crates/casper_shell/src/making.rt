@@ -1,11 +1,12 @@
-ghost use Rattle.std.specs.Prelude.{◌≡◌, ◌≢◌, ◌<◌, ◌≤◌, [], Some, IsSome};
+ghost use Rattle.std.specs.Prelude.{◌≡◌, ◌≢◌, ◌<◌, ◌≤◌, true, [], Some, IsSome};
 ghost use Rattle.casper_words.specs.declared.page.Ref.{Ref};
 ghost use Rattle.casper_space.specs.WordCalls.{HasMade};
 ghost use Rattle.casper_heap.specs.Objects.{objects_of};
-ghost use Rattle.casper_shell.specs.Effects.{objects_after};
+ghost use Rattle.casper_names.specs.Table.{entries_of};
+ghost use Rattle.casper_shell.specs.Effects.{objects_after, entries_after};
 ghost use Rattle.casper_shell.specs.declared.line.ShellLine.TheVariants.{Names};
 ghost use Rattle.casper_shell.specs.Holding.{Holds};
-ghost use Rattle.casper_shell.specs.Lines.{wants_of, HasFields};
+ghost use Rattle.casper_shell.specs.Lines.{wants_of, is_within, HasFields};
 ghost use Rattle.casper_shell.specs.Answers.{answer_of, calls_of, told_new, told_done, told_value, told_place, told_bound, told_unbound, told_found, heap_refusal};
 
 use crate::{ShellAnswer, ShellLine};
@@ -112,6 +113,7 @@ pub(crate) fn make_calls<W: Words>(
 ) -> ShellAnswer
     requires held { Holds (W.seen words.old).right (wants_of line.now) }
     requires room { 600 ≤ (W.seen words.old).room }
+    requires within { is_within pages line.now ≡ true }
     requires fields { HasFields line.now }
     requires list { line.now ≡ Names → names ≡ Some [] }
     ensures answer { result ≡ answer_of pages (W.seen words.old).words line.now }
@@ -119,6 +121,8 @@ pub(crate) fn make_calls<W: Words>(
         (calls_of (W.seen words.old).words line.now) words.new }
     ensures objects { (r : Ref) → r.page ≢ 0 → objects_of (W.seen words.new).words r
         ≡ objects_after line.now result (objects_of (W.seen words.old).words) r }
+    ensures entries { entries_of ((W.seen words.new).words 0)
+        ≡ entries_after line.now result ((W.seen words.old).words 0) }
 {
     match line {
         ShellLine::New { page, n } => tell_new(alloc_object(words, *page, *n)),
