@@ -48,7 +48,10 @@ fn list_for(alloc: Global, line: &ShellLine) -> Result<Option<NameList>, Memory>
     Ok(None)
 }
 
-/// Runs a line on a session over a store of so many pages.
+/// Runs a line on a session over a store of so many pages. Where a page or a word of the line is outside the store, `Range` is the
+/// answer and nothing has changed. Else the line makes one hold of its pages, with room for 600 calls, and then its own calls and no
+/// others; where the hold is refused, its answer is the answer. Memory is asked for before the hold alone, and only where the line
+/// lists the names: where there is too little, nothing has changed. The hold may answer `Memory` too.
 pub fn run_line<Y: Session>(
     alloc: Global,
     session: &mut Y,
