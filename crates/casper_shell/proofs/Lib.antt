@@ -1,0 +1,4 @@
+pub mod Frames
+pub mod GrammarLemmas
+pub mod Staying
+pub mod Wanting
