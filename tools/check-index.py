@@ -182,7 +182,8 @@ def definitions():
         for path in files_of(crate, "specs", ".antt"):
             module = os.path.relpath(path, f"{TOP}/crates/{crate}/specs")[: -len(".antt")].replace("/", ".")
             comment = []
-            for line in read(path).splitlines():
+            # Those of a module with parameters stand further in.
+            for line in map(str.lstrip, read(path).splitlines()):
                 head = re.match(rf"(?:(?:abbrev|unfoldable) pub|pub (?:record|data|[a-z]+ (?:record|data))) ({NAME})", line)
                 if head:
                     found.setdefault(Definition(crate, module, head.group(1)), " ".join(comment))
