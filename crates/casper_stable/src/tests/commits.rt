@@ -34,7 +34,7 @@ const PICKS: [Pick; 3] = [Pick::Old, Pick::New, Pick::Torn(0xEE)];
 /// syncs. Beside each call stands the version that a stop within it leaves, for each pick; 11 is after the last.
 #[test]
 fn stops_within_the_second_commit(rt: HostRuntime) -> Result<(), Fail> {
-    let table = [
+    let table: [(u64, [u64; 3]); 11] = [
         (1, [2, 2, 2]),
         (2, [2, 2, 2]),
         (3, [2, 2, 2]),
@@ -56,8 +56,8 @@ fn stops_within_the_second_commit(rt: HostRuntime) -> Result<(), Fail> {
     assert_eq!(rt; made, (7, 4));
     for (call, versions) in table {
         for (pick, version) in PICKS.iter().zip(versions.iter()) {
-            let left = left(&rt, alloc, &disk, call + 1, *pick)?;
-            let want = (*version, *version - 1);
+            let left = left(&rt, alloc, &disk, call.saturating_add(1), *pick)?;
+            let want = (*version, version.saturating_sub(1));
             assert_eq!(rt; found(&rt, alloc, left)?, want, "{pick:?} at {call}");
         }
     }
