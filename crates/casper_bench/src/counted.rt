@@ -15,7 +15,10 @@ pub struct Counted<D> {
 impl<D> Counted<D> {
     /// The disk, of which no call was counted yet.
     pub fn new(disk: D) -> Counted<D>
-        ensures { result.disk ≡ disk }
+        ensures disk { result.disk ≡ disk }
+        ensures reads { result.reads ≡ 0 }
+        ensures writes { result.writes ≡ 0 }
+        ensures syncs { result.syncs ≡ 0 }
     {
         Counted {
             disk,
