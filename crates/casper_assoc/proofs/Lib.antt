@@ -1,3 +1,4 @@
+pub mod PageMembers
 pub mod Parts
 pub mod PartsOfClients
 pub mod Places

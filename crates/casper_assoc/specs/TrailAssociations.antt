@@ -1,7 +1,7 @@
 use Rattle.std.specs.Prelude.{◌≡◌, ◌<◌, ◌∷◌, ◌++◌, [], ℕ, List, Contains, length, map, slice_index, count_by}
 use Rattle.casper_words.specs.declared.call.Call.{Call}
 use Rattle.casper_words.specs.declared.page.Want.{Want}
-use Rattle.casper_words.specs.Crew.{IsClient}
+use Rattle.casper_words.specs.Crew.{IsClient, has_member}
 use Rattle.casper_trail.specs.declared.entry.Entry.{Entry}
 use Rattle.casper_trail.specs.declared.mark.Mark.{Mark}
 use Rattle.casper_trail.specs.declared.item.Item.{Item}
@@ -9,6 +9,7 @@ use Rattle.casper_trail.specs.declared.item.Item.TheVariants as item
 use Rattle.casper_trail.specs.Parts.{open_entries, as_items}
 use Rattle.casper_trail.specs.Calls.{is_call_of, entries_by, touch_by}
 use Rattle.casper_trail.specs.Clients.{AreOfClients}
+use Rattle.casper_trail.specs.Modified.{is_modified_by}
 use Rattle.casper_trail.specs.Association.{association_of}
 use Rattle.casper_trail.specs.GrowthLaws.{WritersAreWith}
 use Rattle.casper_trail.specs.Marks.{IsExactMark}
@@ -57,6 +58,11 @@ PagesAreWithin all pages = (page : ℕ) → Contains pages page → page < pages
 -- these are the members of a client's association, in each trail whose associations these are
 abbrev pub AreMembersOf : AssociationsView → ℕ → List ℕ → Type 0
 AreMembersOf all who members = (items : List Item) → AreAssociationsOf all items → members ≡ association_of items who
+
+-- these are the clients whose association modifies a page, in each trail whose associations these are
+abbrev pub AreMembersOfPage : AssociationsView → ℕ → List ℕ → Type 0
+AreMembersOfPage all page members = (items : List Item) → AreOfClients items → AreAssociationsOf all items
+    → (client : ℕ) → is_modified_by (association_of items client) items page ≡ has_member client members
 
 -- the open writes of each page of these calls are of members of the client's association
 abbrev pub CallsAreWithWriters : List Item → ℕ → List Call → Type 0

@@ -5,7 +5,7 @@ ghost use Rattle.casper_trail.specs.Calls.{is_read_or_write};
 ghost use Rattle.casper_assoc.specs.Labelling.{IsSound};
 ghost use Rattle.casper_assoc.specs.Written.{AreWrittenBy};
 ghost use Rattle.casper_assoc.specs.TrailLabels.{NotesCalls};
-ghost use Rattle.casper_assoc.specs.TrailAssociations.{AreAssociationsOf, AreSound, pages_in, open_calls_of, CallsAreWithin, WantsAreWithin, PagesAreWithin, AreMembersOf, RecordsCalls, TouchesPage, TouchesEach, DissolvesAssociation};
+ghost use Rattle.casper_assoc.specs.TrailAssociations.{AreAssociationsOf, AreSound, pages_in, open_calls_of, CallsAreWithin, WantsAreWithin, PagesAreWithin, AreMembersOf, AreMembersOfPage, RecordsCalls, TouchesPage, TouchesEach, DissolvesAssociation};
 
 use crate::Labels;
 use casper_words::{Call, Crew, Memory, Op, Page, Want, Who};
@@ -52,6 +52,19 @@ impl Associations {
     {
         let label = self.labels.label(who);
         self.labels.members(label)
+    }
+
+    /// The members of the association by which a page is modified: nobody where the page has no open write. It costs the 32
+    /// clients.
+    pub fn page_members(&self, page: Page) -> Crew
+        requires within { page < pages_in self.now }
+        ensures members { AreMembersOfPage self.now page result }
+        ensures sound { AreSound self.now }
+    {
+        match self.labels.page_label(page) {
+            Some(label) => self.labels.members(label),
+            None => Crew::none(),
+        }
     }
 
     /// How many open reads and writes a client has.

@@ -1,3 +1,4 @@
 pub mod EqualRights
 pub mod HoldersLemmas
 pub mod RightsLemmas
+pub mod WritersLemmas

@@ -20,6 +20,11 @@ abbrev pub reads : Option Right → Bool
 reads (Some Read) = true
 reads _ = false
 
+-- a held right is the right to write
+abbrev pub writes : Option Right → Bool
+writes (Some Write) = true
+writes _ = false
+
 -- a held right of another client is in conflict with a want: a writer with every want, a reader with the
 -- want to write
 abbrev pub is_in_conflict : Right → Option Right → Bool

@@ -1,9 +1,10 @@
-use Rattle.std.specs.Prelude.{◌≡◌, ℕ, ◌&&◌, not, ◌==◌, ◌↔◌, if◌then◌else◌, List, [], ◌∷◌, Option, Some, None, slice_get, option_and_then, length}
+use Rattle.std.specs.Prelude.{◌≡◌, ℕ, Bool, ◌&&◌, not, ◌==◌, ◌↔◌, if◌then◌else◌, List, [], ◌∷◌, Option, Some, None, slice_get, option_and_then, length}
+use Rattle.std.specs.List.{list_any}
 use Rattle.casper_words.specs.declared.page.Right.{Right}
 use Rattle.casper_words.specs.declared.page.Right.TheVariants.{Write}
 use Rattle.casper_words.specs.Crew.{IsClient, has_member, crew_of}
 use Rattle.casper_dir.specs.declared.holders.Holders.{Holders}
-use Rattle.casper_dir.specs.Holding.{right_in, writer_in, reads, is_in_conflict, AreClients}
+use Rattle.casper_dir.specs.Holding.{right_in, writer_in, reads, writes, is_in_conflict, AreClients}
 
 -- the right of a client to a page, where it holds it: the triples of client, page and right
 abbrev pub right_at : List Holders → ℕ → ℕ → Option Right
@@ -16,6 +17,14 @@ writer_at rights page = option_and_then writer_in (slice_get rights page)
 -- the clients that hold a page for reading
 abbrev pub readers_at : List Holders → ℕ → List ℕ
 readers_at rights page = crew_of (λ client. reads (right_at rights client page))
+
+-- whether a client holds some page for writing
+abbrev pub writes_some : List Holders → ℕ → Bool
+writes_some rights client = list_any (λ holders. writes (right_in client holders)) rights
+
+-- the clients that hold some page for writing
+abbrev pub writers_in : List Holders → List ℕ
+writers_in rights = crew_of (writes_some rights)
 
 -- the other clients whose right to a page is in conflict with what a client wants
 abbrev pub conflicts_at : List Holders → ℕ → ℕ → Right → List ℕ

@@ -1,6 +1,7 @@
-ghost use Rattle.std.specs.Prelude.{◌≡◌, ℕ, ◌<◌, [], length, Some, None, IfOk};
+ghost use Rattle.std.specs.Prelude.{◌≡◌, ℕ, ◌<◌, ◌↔◌, [], true, length, Some, None, IfOk};
+ghost use Rattle.casper_words.specs.Crew.{has_member};
 ghost use Rattle.casper_dir.specs.Holding.{raised};
-ghost use Rattle.casper_dir.specs.Rights.{right_at, writer_at, readers_at, conflicts_at, ChangesOneRight, RevokesRights, AreAllClients};
+ghost use Rattle.casper_dir.specs.Rights.{right_at, writer_at, readers_at, conflicts_at, writers_in, ChangesOneRight, RevokesRights, AreAllClients};
 
 use crate::holders::Holders;
 use casper_words::{Crew, Memory, Page, Right, Who};
@@ -69,6 +70,16 @@ impl Directory {
         self.pages[page.0 as usize].conflicts(who, right)
     }
 
+    /// The clients that hold some page for writing. It goes over all pages once.
+    pub fn writers(&self) -> Crew
+        ensures writers { result ≡ writers_in self.now }
+        ensures each { (client : ℕ) → (has_member client result ≡ true)
+            ↔ ((page : ℕ) × (right_at self.now client page ≡ Some Right.Write)) }
+        ensures clients { AreAllClients self.now }
+    {
+        writers_of(&self.pages)
+    }
+
     /// Gives a client a right to a page. A writer that gets the right to read stays a writer.
     pub fn grant(&mut self, page: Page, who: Who, right: Right)
         requires page { page < length self.old }
@@ -115,6 +126,17 @@ impl Directory {
     {
         release_each(&mut self.pages, members);
     }
+}
+
+/// The clients that hold some of these pages for writing.
+fn writers_of(pages: &[Holders]) -> Crew
+    ensures { result ≡ writers_in pages.now }
+{
+    let mut writers = Crew::none();
+    for holders in pages {
+        writers = holders.with_writer(writers);
+    }
+    writers
 }
 
 /// Takes these clients out of the holders of each page.

@@ -1,5 +1,5 @@
-ghost use Rattle.std.specs.Prelude.{◌≡◌, ℕ, ◌==◌, ◌&&◌, not, [], if◌then◌else◌, Some, None};
-ghost use Rattle.casper_words.specs.Crew.{IsClient, has_member, crew_of};
+ghost use Rattle.std.specs.Prelude.{◌≡◌, ℕ, ◌==◌, ◌&&◌, ◌||◌, not, [], if◌then◌else◌, Some, None};
+ghost use Rattle.casper_words.specs.Crew.{IsClient, IsCrew, has_member, crew_of};
 
 use casper_words::{Crew, Right, Who};
 
@@ -13,7 +13,7 @@ pub enum Holders {
 const _: () = prove!(size_of::<Holders>() <= 8);
 
 impl Holders {
-    ghost use Rattle.casper_dir.specs.Holding.{right_in, writer_in, reads, is_in_conflict, raised, AreClients};
+    ghost use Rattle.casper_dir.specs.Holding.{right_in, writer_in, reads, writes, is_in_conflict, raised, AreClients};
 
     /// The holders of a page that nobody holds.
     pub fn none() -> Holders
@@ -41,6 +41,18 @@ impl Holders {
         match self {
             Holders::Readers(_) => None,
             Holders::Writer(who) => Some(who),
+        }
+    }
+
+    /// A crew and the client that holds the page for writing.
+    pub fn with_writer(self, writers: Crew) -> Crew
+        requires { IsCrew writers }
+        ensures { result
+            ≡ crew_of (λ client. has_member client writers || writes (right_in client self)) }
+    {
+        match self {
+            Holders::Readers(_) => writers,
+            Holders::Writer(who) => writers.with(who),
         }
     }
 

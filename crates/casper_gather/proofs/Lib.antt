@@ -1,4 +1,4 @@
 mod Asking
-mod Shown
+pub mod Shown
 pub mod Awaited
 pub mod Outcomes

@@ -9,6 +9,6 @@ mod unended;
 
 pub use casper_model::Outcome;
 pub use laws::{asker_laws, finish_laws, gather_laws, unended_laws};
-pub use resolved::Resolved;
+pub use resolved::{Resolved, reply_of_kept};
 pub use stab::{Phase, Stab};
 pub use unended::Unended;

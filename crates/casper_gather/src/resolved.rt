@@ -1,4 +1,8 @@
+ghost use Rattle.std.specs.Prelude.{◌≡◌};
+ghost use Rattle.casper_model.specs.Stabilise.{reply_of_kept as machine_reply_of};
+
 use crate::Stab;
+use casper_model::{Kept, StabReply};
 use casper_words::{Crew, Who};
 
 /// What the outcome of a write-out comes to.
@@ -12,4 +16,14 @@ pub enum Resolved {
     Undo(Who),
     /// The stabilisation goes on, in doubt. Nobody is told.
     Doubt(Stab),
+}
+
+/// What a client is answered for whom an outcome was kept.
+pub fn reply_of_kept(outcome: Kept) -> StabReply
+    ensures { result ≡ machine_reply_of outcome }
+{
+    match outcome {
+        Kept::Committed(mark) => StabReply::Committed(mark),
+        Kept::Failed(cause) => StabReply::Failed(cause),
+    }
 }

@@ -1,10 +1,10 @@
 ghost use Rattle.std.specs.Prelude.{◌≡◌, if◌then◌else◌};
 ghost use Rattle.casper_model.specs.Stabilisation.{is_empty, with_noted};
-ghost use Rattle.casper_model.specs.Stabilise.{with_asker};
+ghost use Rattle.casper_model.specs.Stabilise.{reply_in_phase, with_asker};
 ghost use Rattle.casper_gather.specs.Bookkeeping.{stabilisation_of, begun_by, after_hand_in, without_asker, resolved_by, AwaitsAsItGathers};
 
 use crate::Resolved;
-use casper_model::Outcome;
+use casper_model::{Outcome, StabReply};
 use casper_words::{Crew, Who};
 
 /// How far a stabilisation is.
@@ -91,6 +91,18 @@ impl Stab {
         ensures label { self.new.label ≡ self.old.label }
     {
         self.askers = self.askers.without(who);
+    }
+
+    /// How far it is, as what a member is answered that wants its association stable.
+    pub fn progress(self) -> StabReply
+        ensures { result
+            ≡ reply_in_phase (stabilisation_of self) ((stabilisation_of self).phase) }
+    {
+        match self.phase {
+            Phase::Gathering => StabReply::Gathering(self.left),
+            Phase::Sealed | Phase::Written => StabReply::Doing(self.lead),
+            Phase::Doubt => StabReply::Doubtful(self.lead),
+        }
     }
 
     /// What the outcome of the write-out comes to. After a failure a loss that was noted is carried out; after a commit it is forgotten.

@@ -59,6 +59,13 @@ impl Unended {
         self.each.push_reserved(one);
     }
 
+    /// All of them, in the order in which they began.
+    pub fn each(&self) -> &[Stab]
+        ensures { result.now ≡ self.now.each }
+    {
+        &self.each
+    }
+
     /// The one with this lead.
     pub fn led_by(&self, lead: Who) -> Option<Stab>
         ensures { result ≡ led_by lead self.now.each }

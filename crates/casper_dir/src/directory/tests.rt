@@ -33,6 +33,7 @@ fn rights_after_calls(rt: HostRuntime) -> Result<(), Fail> {
     directory.release(Page(1), two);
     assert!(rt; granted(&mut directory, Page(1), one, Right::Write));
     assert_eq!(rt; directory.writer(Page(1)), Some(one));
+    assert_eq!(rt; directory.writers(), Crew::none().with(one));
     assert_eq!(rt; directory.readers(Page(1)), Crew::none());
     assert!(rt;
         !granted(&mut directory, Page(1), two, Right::Read),
