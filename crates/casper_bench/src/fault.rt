@@ -13,6 +13,8 @@ pub enum Fault {
     Commit(CommitFault),
     /// The pages of a commit are not in rising order, or not all in the store.
     Pages,
+    /// No page is to be held, or more than a cache holds.
+    Held,
     Output,
 }
 

@@ -11,6 +11,11 @@ pub enum Job<'a> {
         pages: u32,
         commits: u32,
     },
+    /// Time hits on so many held pages, so many rounds.
+    Hits {
+        pages: u32,
+        rounds: u32,
+    },
 }
 
 /// What the words ask for, if they are words of this program.
@@ -23,6 +28,10 @@ pub fn job_of(words: &[String]) -> Option<Job<'_>> {
             file: words[1].as_str(),
             pages: words[2].parse().ok()?,
             commits: words[3].parse().ok()?,
+        }),
+        3 if words[0].as_str() == "hits" => Some(Job::Hits {
+            pages: words[1].parse().ok()?,
+            rounds: words[2].parse().ok()?,
         }),
         _ => None,
     }

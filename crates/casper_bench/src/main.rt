@@ -1,9 +1,10 @@
-//! Makes a store in a file, and commits random pages of it, for measurements.
+//! Makes a store in a file and commits random pages of it, and times hits of a cache, for measurements.
 #![tactic(auto)]
 
 mod commits;
 mod counted;
 mod fault;
+mod hits;
 mod job;
 
 use crate::job::{Job, job_of};
@@ -11,7 +12,8 @@ use std::process::ExitCode;
 use std::{env, io};
 
 /// What the words may be.
-const USAGE: &str = "usage: casper_bench make FILE | casper_bench commit FILE PAGES COMMITS\n";
+const USAGE: &str =
+    "usage: casper_bench make FILE | casper_bench commit FILE PAGES COMMITS | casper_bench hits PAGES ROUNDS\n";
 
 fn main(rt: HostRuntime) -> ExitCode {
     let words = match words_given(&rt) {
@@ -29,6 +31,7 @@ fn main(rt: HostRuntime) -> ExitCode {
             pages,
             commits,
         } => commits::commit(&rt, file, pages, commits),
+        Job::Hits { pages, rounds } => hits::hits(&rt, pages, rounds),
     };
     match done {
         Ok(()) => ExitCode::SUCCESS,

@@ -1,12 +1,10 @@
-use Rattle.std.proofs.Common.{◌≡◌, ℕ, zero, suc, ◌+◌, ◌-◌, ◌<◌, ◌≤◌, Bool, true, false, cond, not, eqb, eq-eqb, List, [], ◌∷◌, ◌++◌, Some, None, length, take, drop, remove, set, get_or, slice_get, find, map, reverse, slice_index, refl, sym, ap, ◌∙◌, subst, ⊎_elim, arith}
+use Rattle.std.proofs.Common.{◌≡◌, ℕ, zero, suc, ◌+◌, ◌-◌, ◌<◌, ◌≤◌, Bool, true, false, cond, not, eqb, eq-eqb, List, [], ◌∷◌, ◌++◌, Some, None, length, take, remove, get_or, slice_get, find, map, reverse, refl, sym, ap, ◌∙◌, subst, ⊎_elim, arith}
 use Rattle.std.specs.Option.{option_map, option_to_list}
 use Rattle.std.proofs.lemmas.Bool.{eqb-true, ne_eqb, cases_eq}
-use Rattle.std.proofs.lemmas.List.{drop_more, take_more, get_or-reverse, get_or-map, length-map, length-reverse}
-use Rattle.std.proofs.lemmas.Option.{slice_get-get_or, slice_get_read}
+use Rattle.std.proofs.lemmas.List.{take_more, get_or-reverse, get_or-map, length-map, length-reverse}
 use Rattle.casper_words.specs.declared.page.Right.{Right}
 use Rattle.casper_cache.specs.declared.held.Held.{Held}
-use Rattle.casper_cache.specs.Holding.{is_of, entry_of, word_of, others, front_of, written, with_word, with_right, graded, ArePagesDistinct}
-use Rattle.casper_cache.proofs.ListPlaces.{take_one-drop, take_one-drop-set, remove-set}
+use Rattle.casper_cache.specs.Holding.{is_of, entry_of, others, front_of, written, with_word, with_right, graded, ArePagesDistinct}
 
 -- what is found passes
 pub found_passes : {X : Type 0} (p : X → Bool) (xs : List X) (x : X) → find p xs ≡ Some x → p x ≡ true
@@ -64,81 +62,14 @@ remove-others page (x ∷ xs) (suc place) entry distinct at is =
 pub entry_of-page : (page : ℕ) (held : List Held) (entry : Held) → entry_of page held ≡ Some entry → entry.page ≡ page
 entry_of-page page held entry e = eqb-true entry.page page (found_passes (is_of page) held entry e)
 
--- a page is held, and its entry stands at a place
-pub record StandsAt (page : ℕ) (held : List Held) (place : ℕ) : Type 0 where
-  pub within : place < length held
-  pub found : slice_get held place ≡ entry_of page held
-
--- what a search of the same list says of a place
-pub stands_at : (page : ℕ) (held seen : List Held) (place : ℕ) → seen ≡ held →
-    place < length seen → slice_get seen place ≡ entry_of page seen → StandsAt page held place
-stands_at page held seen place same within found =
-    subst (λ l. StandsAt page l place) same (record { within = within; found = found })
-
--- the entry that stands there is the one that is found, and is of the page
-pub entry_of-at : (page : ℕ) (held : List Held) (place : ℕ) (entry : Held) →
-    StandsAt page held place → entry ≡ get_or held place entry → entry_of page held ≡ Some entry
-entry_of-at page held place entry stands read = sym stands.found ∙ slice_get_read held (length held) place entry refl stands.within read
-
--- the list has an entry at the place
-some_entry : (held : List Held) (place : ℕ) → place < length held → (entry : Held) × (slice_get held place ≡ Some entry)
-some_entry [] place within = absurd (omega arith)
-some_entry (x ∷ xs) place within = (get_or (x ∷ xs) place x, slice_get-get_or (x ∷ xs) place x within)
-
--- without the entry at the page's place, the others are left
-pub others-at : (page : ℕ) (held : List Held) (place : ℕ) → ArePagesDistinct held → StandsAt page held place → remove held place ≡ others page held
-others-at page held place distinct stands =
-    let here = some_entry held place stands.within in
-    remove-others page held place here.0 distinct here.1 (entry_of-page page held here.0 (sym stands.found ∙ here.1))
-
--- the entry at the page's place, in front of the others
-pub front-at : (page : ℕ) (held : List Held) (place : ℕ) → ArePagesDistinct held → StandsAt page held place →
-    take 1 (drop place held) ++ remove held place ≡ front_of page held
-front-at page held place distinct stands =
-    rw (take_one-drop held place, others-at page held place distinct stands, stands.found) refl
-
--- a changed entry at the page's place, in front of the others
-pub changed_front-at : (page : ℕ) (held : List Held) (place : ℕ) (entry : Held) → ArePagesDistinct held → StandsAt page held place →
-    take 1 (drop place (set held place entry)) ++ remove (set held place entry) place ≡ entry ∷ others page held
-changed_front-at page held place entry distinct stands =
-    rw (take_one-drop-set held place entry stands.within, remove-set held place entry, others-at page held place distinct stands) refl
-
--- a word written at the page's place, in front of the others
-pub written-at : (page word value : ℕ) (held : List Held) (place : ℕ) (entry : Held) → ArePagesDistinct held → StandsAt page held place →
-    entry ≡ get_or held place entry →
-    take 1 (drop place (set held place (with_word word value entry))) ++ remove (set held place (with_word word value entry)) place ≡
-    written page word value held
-written-at page word value held place entry distinct stands read =
-    changed_front-at page held place (with_word word value entry) distinct stands ∙
-    ap (λ o. option_to_list (option_map (with_word word value) o) ++ others page held) (sym (entry_of-at page held place entry stands read))
-
 -- a page that no entry is of stays as it is when it is lowered
-graded-absent : (right : Right) (page : ℕ) (held : List Held) → entry_of page held ≡ None → graded right page held ≡ held
+pub graded-absent : (right : Right) (page : ℕ) (held : List Held) → entry_of page held ≡ None → graded right page held ≡ held
 graded-absent right page [] none = refl
 graded-absent right page (x ∷ xs) none =
     (elim (is_of page x) as (λ b. cond b (Some x) (entry_of page xs) ≡ None → cond b (with_right right x) x ∷ graded right page xs ≡ x ∷ xs) [
       | true ↦ λ h. cc
       | false ↦ λ h. ap (λ l. x ∷ l) (graded-absent right page xs h)
     ]) none
-
--- the right to read written at the page's place
-pub graded-at : (right : Right) (page : ℕ) (held : List Held) (place : ℕ) (entry : Held) →
-    ArePagesDistinct held → slice_get held place ≡ Some entry → entry.page ≡ page → set held place (with_right right entry) ≡ graded right page held
-graded-at right page [] place entry distinct at is = cc
-graded-at right page (x ∷ xs) zero entry distinct at is =
-    let same : x ≡ entry = cc in
-    let here : x.page ≡ page = ap (λ (e : Held). e.page) same ∙ is in
-    let test : is_of page x ≡ true = is_of-same page x here in
-    let absent : entry_of page xs ≡ None = subst (λ q. entry_of q xs ≡ None) here distinct.0 in
-    rw (test, graded-absent right page xs absent) (ap (λ e. with_right right e ∷ xs) (sym same))
-graded-at right page (x ∷ xs) (suc place) entry distinct at is =
-    let rest : set xs place (with_right right entry) ≡ graded right page xs = graded-at right page xs place entry distinct.1 at is in
-    (elim (is_of page x) as (λ b. is_of page x ≡ b → x ∷ set xs place (with_right right entry) ≡ cond b (with_right right x) x ∷ graded right page xs) [
-      | true ↦ λ test.
-          let here : x.page ≡ page = eqb-true x.page page test in
-          absurd (found_at (is_of x.page) xs place entry at (is_of-same x.page entry (is ∙ sym here)) distinct.0)
-      | false ↦ λ _. ap (λ l. x ∷ l) rest
-    ]) refl
 
 -- a search for another page passes over what is not of it
 pub entry_of-others : (page q : ℕ) (held : List Held) → (q ≡ page → ⊥) → entry_of q (others page held) ≡ entry_of q held
@@ -241,20 +172,6 @@ length-entry-others page (x ∷ xs) =
       | false ↦ omega (arith, rest)
     ]
 
--- the page whose place is known is found there
-pub entry_of-here : (page : ℕ) (held : List Held) (place : ℕ) (entry : Held) →
-    place < length held → entry ≡ get_or held place entry → entry.page ≡ page → entry_of page (drop place held) ≡ slice_get held place
-entry_of-here page held place entry within read is =
-    let at : slice_get held place ≡ Some entry = slice_get_read held (length held) place entry refl within read in
-    let test : is_of page entry ≡ true = is_of-same page entry is in
-    let cut : drop place held ≡ entry ∷ drop (place + 1) held = drop_more held place entry within ∙ ap (λ e. e ∷ drop (place + 1) held) (sym read) in
-    rw (cut, at, test) refl
-
--- the entry at the page's place has the page's word
-pub word_of-at : (page word : ℕ) (held : List Held) (place : ℕ) (entry : Held) → StandsAt page held place → entry ≡ get_or held place entry →
-    word_of page word held ≡ slice_index entry.words word
-word_of-at page word held place entry stands read = rw (entry_of-at page held place entry stands read) refl
-
 -- the next of the pages from the back
 pub evicted_more : (held : List Held) (back : ℕ) (entry : Held) → back < length held → entry ≡ get_or held (length held - 1 - back) entry →
     take (back + 1) (reverse (map (λ (e : Held). e.page) held)) ≡ take back (reverse (map (λ (e : Held). e.page) held)) ++ entry.page ∷ []
@@ -266,10 +183,3 @@ evicted_more held back entry within read =
     get_or-reverse pages back 0 (omega arith) ∙ ap (λ n. get_or pages (n - 1 - back) 0) long ∙
     get_or-map (λ (e : Held). e.page) held (length held - 1 - back) entry 0 last ∙ ap (λ (e : Held). e.page) (sym read) in
     take_more (reverse pages) back 0 (omega (arith, length-reverse pages)) ∙ ap (λ p. take back (reverse pages) ++ p ∷ []) here
-
--- the right to read written at the page's place, by what was read there
-pub graded-stands : (right : Right) (page : ℕ) (held : List Held) (place : ℕ) (entry : Held) → ArePagesDistinct held → StandsAt page held place →
-    entry ≡ get_or held place entry → set held place (with_right right entry) ≡ graded right page held
-graded-stands right page held place entry distinct stands read =
-    graded-at right page held place entry distinct (slice_get_read held (length held) place entry refl stands.within read)
-    (entry_of-page page held entry (entry_of-at page held place entry stands read))

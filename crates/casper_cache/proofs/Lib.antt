@@ -1,5 +1,7 @@
 pub mod ChangeLaws
 pub mod Entries
+pub mod FirstPage
 pub mod HistoryLemmas
-pub mod ListPlaces
+pub mod LastPages
+pub mod LeafLemmas
 pub mod SoundSteps

@@ -1,4 +1,4 @@
-use Rattle.std.specs.Prelude.{◌≡◌, ℕ, Bool, ◌==◌, not, if◌then◌else◌, List, [], ◌∷◌, ◌++◌, Option, None, filter, find, map, slice_set, slice_index, unwrap_or}
+use Rattle.std.specs.Prelude.{◌≡◌, ℕ, Bool, true, false, ◌==◌, not, if◌then◌else◌, List, [], ◌∷◌, ◌++◌, Option, None, filter, find, map, slice_set, slice_index, unwrap_or}
 use Rattle.std.specs.Option.{option_map, option_to_list}
 use Rattle.casper_words.specs.declared.page.Right.{Right}
 use Rattle.casper_words.specs.declared.page.Right.TheVariants.{Read, Write}
@@ -15,6 +15,15 @@ entry_of page held = find (is_of page) held
 -- the right to a page, where it is held
 abbrev pub right_of : ℕ → List Held → Option Right
 right_of page held = option_map (λ entry. entry.right) (entry_of page held)
+
+-- whether a right is the right to write
+abbrev pub is_to_write : Right → Bool
+is_to_write Read = false
+is_to_write Write = true
+
+-- the first page that is held for writing
+abbrev pub first_to_write : List Held → Option ℕ
+first_to_write held = option_map (λ entry. entry.page) (find (λ entry. is_to_write entry.right) held)
 
 -- the words of a page, where it is held
 abbrev pub words_of : ℕ → List Held → Option (List ℕ)

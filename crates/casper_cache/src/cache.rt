@@ -1,18 +1,21 @@
 ghost use Rattle.std.specs.Prelude.{◌≡◌, ◌+◌, ◌-◌, ◌<◌, ◌≤◌, ◌↔◌, ◌∷◌, ◌++◌, [], length, map, take, reverse, slice_index, unwrap_or, Some, IsSome, IsNone, IsTrue, IsOk, IfSome, IfNone, IfOk, OnOk, OnErr, IfErr, if◌then◌else◌};
 ghost use Rattle.std.specs.Bool.{OnTrue, OnFalse};
 ghost use Rattle.std.specs.Option.{option_copied};
-ghost use Rattle.casper_cache.specs.Holding.{right_of, words_of, word_of, others, front_of, lowered, raised};
+ghost use Rattle.casper_cache.specs.Holding.{right_of, words_of, word_of, others, front_of, first_to_write, lowered, raised};
 ghost use Rattle.casper_cache.specs.Own.{room_of, CanRead, CanWrite, after_read, after_write, IsSound};
 
 use crate::held::Held;
+use crate::held_pages::HeldPages;
 use crate::pages::Pages;
-use crate::places::{bring_forward, place_of};
 use casper_words::{Call, Calls, Frame, Memory, Op, Page, Right, Who};
 use std::alloc::Global;
 use std::marker::Model;
 
 /// How many calls may wait to be recorded.
 const MOST_PENDING: u32 = 4096;
+
+/// How many pages more than the capacity are held within a turn: as many as one grant installs.
+const SPARE: u32 = 4;
 
 /// One client's held pages, the most recently used first, and its calls that were not yet recorded.
 /// Contracts see the client, the capacity in pages, the pages with their rights and words, the calls in
@@ -21,13 +24,13 @@ const MOST_PENDING: u32 = 4096;
 pub struct Cache {
     who: Who,
     capacity: u32,
-    held: Vec<Held>,
+    pages: HeldPages,
     pending: Calls,
     cap: u32,
 }
 
 impl Model for Cache {
-    ghost use Rattle.std.specs.Prelude.{◌+◌, ◌≤◌, length};
+    ghost use Rattle.std.specs.Prelude.{◌≡◌, ◌+◌, ◌≤◌, length};
     ghost use Rattle.casper_cache.specs.Own.{Own, IsSound};
 
     ghost Value = { Own };
@@ -35,7 +38,7 @@ impl Model for Cache {
     ghost view = { λ cache. record {
       client = cache.who;
       capacity = cache.capacity;
-      held = cache.held.items;
+      held = cache.pages.held;
       pending = cache.pending.items;
       cap = cache.cap;
     } };
@@ -43,10 +46,10 @@ impl Model for Cache {
     ghost invariant = { λ cache. IsSound (record {
       client = cache.who;
       capacity = cache.capacity;
-      held = cache.held.items;
+      held = cache.pages.held;
       pending = cache.pending.items;
       cap = cache.cap;
-    }) × (4096 ≤ length cache.pending.items + cache.pending.room) };
+    }) × (4096 ≤ length cache.pending.items + cache.pending.room) × (cache.pages.most ≡ cache.capacity + 4) };
 }
 
 impl Cache {
@@ -59,12 +62,13 @@ impl Cache {
             ≡ record { client = who; capacity = capacity; held = []; pending = []; cap = 0 }) }
         ensures sound { IfOk result (λ cache. IsSound cache) }
     {
+        let pages = HeldPages::new(alloc, capacity + SPARE)?;
         let mut pending = Calls::new(alloc);
         pending.reserve(MOST_PENDING)?;
         Ok(Cache {
             who,
             capacity,
-            held: Vec::new(alloc),
+            pages,
             pending,
             cap: 0,
         })
@@ -92,7 +96,15 @@ impl Cache {
         ensures right { result ≡ right_of page self.now.held }
         ensures sound { IsSound self.now }
     {
-        place_of(&self.held, page).map(|place| self.held[place].right)
+        self.pages.right(page)
+    }
+
+    /// The page held for writing that was used last.
+    pub fn first_to_write(&self) -> Option<Page>
+        ensures first { result ≡ first_to_write self.now.held }
+        ensures sound { IsSound self.now }
+    {
+        self.pages.first_to_write()
     }
 
     /// Reads a word, where the page is held and there is room for one call: the call is then pending, and
@@ -107,12 +119,10 @@ impl Cache {
         ensures miss { IfNone result (self.new ≡ self.old) }
         ensures sound { IsSound self.new }
     {
-        let place = place_of(&self.held, page)?;
         if self.room() == 0 {
             return None;
         }
-        let value = self.held[place].words.get(word);
-        bring_forward(&mut self.held, place);
+        let value = self.pages.read(page, word)?;
         let op = Op::Read;
         let read = Call {
             op,
@@ -136,15 +146,10 @@ impl Cache {
         ensures miss { OnFalse result (self.new ≡ self.old) }
         ensures sound { IsSound self.new }
     {
-        let Some(place) = place_of(&self.held, page) else {
-            return false;
-        };
-        if self.held[place].right != Right::Write || self.room() == 0 {
+        if self.pages.right(page) != Some(Right::Write) || self.room() == 0 {
             return false;
         }
-        let entry = &mut self.held[place];
-        entry.words.set(word, value);
-        bring_forward(&mut self.held, place);
+        self.pages.write(page, word, value);
         let op = Op::Write;
         let write = Call {
             op,
@@ -177,14 +182,9 @@ impl Cache {
             right,
             words: frame,
         };
-        if let Some(place) = place_of(&self.held, page) {
-            self.held[place] = entry;
-            bring_forward(&mut self.held, place);
-            return Ok(());
-        }
-        match self.held.insert(0, entry) {
+        match self.pages.put(entry) {
             Ok(()) => Ok(()),
-            Err(refused) => Err((refused.value.words, Memory)),
+            Err(refused) => Err((refused.words, Memory)),
         }
     }
 
@@ -194,9 +194,7 @@ impl Cache {
         ensures front { self.new ≡ record self.old { held = front_of page self.old.held } }
         ensures sound { IsSound self.new }
     {
-        if let Some(place) = place_of(&self.held, page) {
-            bring_forward(&mut self.held, place);
-        }
+        self.pages.front(page);
     }
 
     /// The frame of a page, where it is held.
@@ -204,7 +202,7 @@ impl Cache {
         ensures frame { option_copied result ≡ words_of page self.now.held }
         ensures sound { IsSound self.now }
     {
-        place_of(&self.held, page).map(|place| &self.held[place].words)
+        self.pages.frame(page)
     }
 
     /// The calls that were not yet recorded, in order.
@@ -232,14 +230,10 @@ impl Cache {
             } }
         ensures sound { IsSound self.new }
     {
-        let Some(place) = place_of(&self.held, page) else {
-            return;
-        };
         if keep {
-            let entry = &mut self.held[place];
-            entry.right = Right::Read;
+            self.pages.grade(page, Right::Read);
         } else {
-            let _given = self.held.remove(place);
+            self.pages.remove(page);
         }
     }
 
@@ -249,11 +243,7 @@ impl Cache {
         ensures raised { self.new ≡ record self.old { held = raised page self.old.held } }
         ensures sound { IsSound self.new }
     {
-        let Some(place) = place_of(&self.held, page) else {
-            return;
-        };
-        let entry = &mut self.held[place];
-        entry.right = Right::Write;
+        self.pages.grade(page, Right::Write);
     }
 
     /// How many more pages are held than the capacity, or 0.
@@ -261,7 +251,7 @@ impl Cache {
         ensures over { result ≡ length self.now.held - self.now.capacity }
         ensures sound { IsSound self.now }
     {
-        self.held.len().saturating_sub(self.capacity as usize) as u32
+        self.pages.count().saturating_sub(self.capacity as usize) as u32
     }
 
     /// The `count` least recently used pages, the least recent first, or all where fewer are held.
@@ -269,13 +259,7 @@ impl Cache {
         requires { count ≤ 4 }
         ensures { result ≡ take count (reverse (map (λ entry. entry.page) self.now.held)) }
     {
-        let held = self.held.as_slice();
-        let mut pages = Pages::new();
-        for back in 0..held.len().min(count as usize) {
-            let place = held.len() - 1 - back;
-            pages.push(held[place].page);
-        }
-        pages
+        self.pages.last(count)
     }
 
     /// Holds no page any more and forgets the pending calls. The memory for 4,096 calls stays.
@@ -283,7 +267,7 @@ impl Cache {
         ensures cleared { self.new ≡ record self.old { held = []; pending = [] } }
         ensures sound { IsSound self.new }
     {
-        self.held.clear();
+        self.pages.clear();
         self.clear_pending();
     }
 }

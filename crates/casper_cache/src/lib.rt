@@ -3,9 +3,10 @@
 
 mod cache;
 mod held;
+mod held_pages;
 mod laws;
+mod leaf;
 mod pages;
-mod places;
 
 pub use cache::Cache;
 pub use laws::{change_laws, history_law};

@@ -30,6 +30,7 @@ fn misses(rt: HostRuntime) -> Result<(), Fail> {
     }
     assert_eq!(rt; cache.right(Page(0)), Some(Right::Read));
     assert!(rt; !cache.hit_write(Page(0), 0, 1), "held for reading");
+    assert_eq!(rt; cache.first_to_write(), Some(Page(4)));
     let last = cache.evict(2);
     assert_eq!(rt; last.as_slice(), [Page(0), Page(1)].as_slice());
     assert_eq!(rt; cache.room(), 2);

@@ -1,0 +1,18 @@
+use Rattle.std.proofs.Common.{ap}
+use Rattle.casper_cache.specs.Bounded.{Bounded}
+use Rattle.casper_cache.specs.Holding.{front_of}
+use Rattle.casper_cache.specs.Leaves.{shown}
+use Rattle.casper_cache.proofs.Entries.{distinct-front_of}
+use Rattle.casper_cache.proofs.LeafLemmas.{shown-promoted}
+use Rattle.casper_cache.proofs.held_pages.HeldPages.front.Goals as goal
+
+pub invariant_of-self : goal.invariant_of-self
+invariant_of-self c =
+    let entries = c.self.inside.leaves.entries in
+    rw (c.promote.ensures.entries, shown-promoted c.args.page entries c.self.invariant) (distinct-front_of c.args.page (shown entries) c.self.invariant)
+
+pub returns : goal.returns
+returns c =
+    let entries = c.self.inside.leaves.entries in
+    rw (c.promote.ensures.entries, shown-promoted c.args.page entries c.self.invariant)
+    (ap (λ (pages : Bounded). record pages { held = front_of c.args.page pages.held }) c.self.view_is)
