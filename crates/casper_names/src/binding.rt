@@ -94,9 +94,10 @@ pub fn bind<W: Words>(words: &mut W, name: &Name, r: Ref) -> Result<(), NameFaul
 mod tests {
     use super::*;
     use crate::{list, lookup, unbind};
-    use casper_heap::alloc_object;
+    use casper_heap::{PageFull, alloc_object};
     use casper_space::Plain;
-    use casper_words::NameList;
+    use casper_words::{Memory, NameList};
+    use std::alloc::Global;
     use std::process::Abort;
     use std::test::Fail;
 
@@ -118,26 +119,64 @@ mod tests {
         }
     }
 
+    /// Makes the first object of page 1.
+    fn make_first(rt: &impl Abort, plain: &mut Plain) -> Result<Ref, PageFull> {
+        ready(rt, plain);
+        alloc_object(plain, Page(1), 2)
+    }
+
+    /// Binds a name to the first object of page 1.
+    fn bind_first(rt: &impl Abort, plain: &mut Plain, name: &Name) -> Result<(), NameFault> {
+        ready(rt, plain);
+        bind(plain, name, first_object())
+    }
+
+    fn find(rt: &impl Abort, plain: &mut Plain, name: &Name) -> Option<u64> {
+        ready(rt, plain);
+        lookup(plain, name)
+    }
+
+    fn take_out(rt: &impl Abort, plain: &mut Plain, name: &Name) -> bool {
+        ready(rt, plain);
+        unbind(plain, name)
+    }
+
+    fn listed(rt: &impl Abort, alloc: Global, plain: &mut Plain) -> Result<NameList, Memory> {
+        let mut names = NameList::new(alloc)?;
+        ready(rt, plain);
+        list(plain, &mut names);
+        Ok(names)
+    }
+
+    /// A word of the table's page.
+    fn word_at(rt: &impl Abort, plain: &mut Plain, word: u32) -> u64 {
+        assert!(rt; word < 512);
+        ready(rt, plain);
+        plain.get(Page(0), word)
+    }
+
+    /// Binds an entry to the name `a`.
+    fn fill_entry(rt: &impl Abort, plain: &mut Plain, entry: u32) {
+        assert!(rt; entry < 64);
+        ready(rt, plain);
+        plain.set(Page(0), 5 * entry, 1);
+        ready(rt, plain);
+        plain.set(Page(0), 5 * entry + 1, 97);
+    }
+
     #[test]
     fn desk_is_bound_to_its_object(rt: HostRuntime) -> Result<(), Fail> {
         let mut plain = Plain::new(rt.alloc(), 2, 3_000)?;
         let desk = Name::new(b"desk").ok_or("no name")?;
-        ready(&rt, &plain);
-        assert_eq!(rt;
-            bind(&mut plain, &desk, first_object()),
-            Err(NameFault::NoObject)
-        );
-        ready(&rt, &plain);
-        assert_eq!(rt; alloc_object(&mut plain, Page(1), 2), Ok(first_object()));
-        ready(&rt, &plain);
-        assert_eq!(rt; bind(&mut plain, &desk, first_object()), Ok(()));
+        let none = Err(NameFault::NoObject);
+        assert_eq!(rt; bind_first(&rt, &mut plain, &desk), none);
+        assert_eq!(rt; make_first(&rt, &mut plain), Ok(first_object()));
+        assert_eq!(rt; bind_first(&rt, &mut plain, &desk), Ok(()));
         let table = [4, 1_802_724_708, 0, 0, 513];
         for word in 0..5 {
-            ready(&rt, &plain);
-            assert_eq!(rt; plain.get(Page(0), word), table[word as usize]);
+            assert_eq!(rt; word_at(&rt, &mut plain, word), table[word as usize]);
         }
-        ready(&rt, &plain);
-        assert_eq!(rt; lookup(&mut plain, &desk), Some(513));
+        assert_eq!(rt; find(&rt, &mut plain, &desk), Some(513));
         Ok(())
     }
 
@@ -147,23 +186,14 @@ mod tests {
         let desk = Name::new(b"desk").ok_or("no name")?;
         let lamp = Name::new(b"lamp").ok_or("no name")?;
         let cup = Name::new(b"cup").ok_or("no name")?;
-        ready(&rt, &plain);
-        assert_eq!(rt; alloc_object(&mut plain, Page(1), 2), Ok(first_object()));
-        ready(&rt, &plain);
-        assert_eq!(rt; bind(&mut plain, &desk, first_object()), Ok(()));
-        ready(&rt, &plain);
-        assert_eq!(rt; bind(&mut plain, &lamp, first_object()), Ok(()));
-        let mut before = NameList::new(rt.alloc())?;
-        ready(&rt, &plain);
-        list(&mut plain, &mut before);
+        assert_eq!(rt; make_first(&rt, &mut plain), Ok(first_object()));
+        assert_eq!(rt; bind_first(&rt, &mut plain, &desk), Ok(()));
+        assert_eq!(rt; bind_first(&rt, &mut plain, &lamp), Ok(()));
+        let before = listed(&rt, rt.alloc(), &mut plain)?;
         assert_eq!(rt; before.as_slice(), [desk, lamp].as_slice());
-        ready(&rt, &plain);
-        assert_eq!(rt; unbind(&mut plain, &desk), true);
-        ready(&rt, &plain);
-        assert_eq!(rt; bind(&mut plain, &cup, first_object()), Ok(()));
-        let mut after = NameList::new(rt.alloc())?;
-        ready(&rt, &plain);
-        list(&mut plain, &mut after);
+        assert_eq!(rt; take_out(&rt, &mut plain, &desk), true);
+        assert_eq!(rt; bind_first(&rt, &mut plain, &cup), Ok(()));
+        let after = listed(&rt, rt.alloc(), &mut plain)?;
         assert_eq!(rt; after.as_slice(), [cup, lamp].as_slice());
         Ok(())
     }
@@ -173,21 +203,13 @@ mod tests {
         let mut plain = Plain::new(rt.alloc(), 2, 3_000)?;
         let desk = Name::new(b"desk").ok_or("no name")?;
         let a = Name::new(b"a").ok_or("no name")?;
-        ready(&rt, &plain);
-        assert_eq!(rt; alloc_object(&mut plain, Page(1), 2), Ok(first_object()));
+        assert_eq!(rt; make_first(&rt, &mut plain), Ok(first_object()));
         for entry in 0..64 {
-            ready(&rt, &plain);
-            plain.set(Page(0), 5 * entry, 1);
-            ready(&rt, &plain);
-            plain.set(Page(0), 5 * entry + 1, 97);
+            fill_entry(&rt, &mut plain, entry);
         }
-        ready(&rt, &plain);
-        assert_eq!(rt;
-            bind(&mut plain, &desk, first_object()),
-            Err(NameFault::TableFull)
-        );
-        ready(&rt, &plain);
-        assert_eq!(rt; bind(&mut plain, &a, first_object()), Ok(()));
+        let full = Err(NameFault::TableFull);
+        assert_eq!(rt; bind_first(&rt, &mut plain, &desk), full);
+        assert_eq!(rt; bind_first(&rt, &mut plain, &a), Ok(()));
         Ok(())
     }
 }

@@ -93,22 +93,32 @@ mod tests {
         assert!(rt; plain.room() >= 600);
     }
 
+    fn set_word(rt: &impl Abort, plain: &mut Plain, word: u32, value: u64) {
+        assert!(rt; word < 512);
+        ready(rt, plain);
+        plain.set(Page(0), word, value);
+    }
+
+    fn find(rt: &impl Abort, plain: &mut Plain, name: &Name) -> Option<u64> {
+        ready(rt, plain);
+        lookup(plain, name)
+    }
+
+    fn take_out(rt: &impl Abort, plain: &mut Plain, name: &Name) -> bool {
+        ready(rt, plain);
+        unbind(plain, name)
+    }
+
     #[test]
     fn desk_leads_to_its_object(rt: HostRuntime) -> Result<(), Fail> {
         let mut plain = Plain::new(rt.alloc(), 1, 1_000)?;
         let desk = Name::new(b"desk").ok_or("no name")?;
-        ready(&rt, &plain);
-        plain.set(Page(0), 0, 4);
-        ready(&rt, &plain);
-        plain.set(Page(0), 1, 1_802_724_708);
-        ready(&rt, &plain);
-        plain.set(Page(0), 4, 513);
-        ready(&rt, &plain);
-        assert_eq!(rt; lookup(&mut plain, &desk), Some(513));
-        ready(&rt, &plain);
-        assert_eq!(rt; unbind(&mut plain, &desk), true);
-        ready(&rt, &plain);
-        assert_eq!(rt; lookup(&mut plain, &desk), None);
+        set_word(&rt, &mut plain, 0, 4);
+        set_word(&rt, &mut plain, 1, 1_802_724_708);
+        set_word(&rt, &mut plain, 4, 513);
+        assert_eq!(rt; find(&rt, &mut plain, &desk), Some(513));
+        assert_eq!(rt; take_out(&rt, &mut plain, &desk), true);
+        assert_eq!(rt; find(&rt, &mut plain, &desk), None);
         Ok(())
     }
 }

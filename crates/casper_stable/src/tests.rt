@@ -5,7 +5,7 @@ mod noted;
 mod opening;
 
 use crate::Stable;
-use casper_disk::{CommitFault, Disk, Kind, MemDisk, Pick, Vault};
+use casper_disk::{CommitFault, Disk, Vault};
 use casper_words::{Frame, Memory, Page};
 use std::alloc::Global;
 use std::process::Abort;
@@ -16,6 +16,19 @@ fn frame_of(alloc: Global, number: u64) -> Result<Frame, Memory> {
     let mut frame = Frame::zero(alloc)?;
     frame.set(0, number);
     Ok(frame)
+}
+
+/// The store that a format makes on a disk.
+fn formatted<D: Disk + Drop>(
+    alloc: Global,
+    disk: D,
+    pages: u32,
+    frames: u32,
+) -> Result<Stable<D>, Fail> {
+    match Stable::format(alloc, disk, pages, frames) {
+        Ok(stable) => Ok(stable),
+        Err(_) => Err("format")?,
+    }
 }
 
 /// The store of a disk that is not refused.
@@ -43,26 +56,33 @@ fn commit_three<D: Disk>(
     Ok(stable.commit(alloc, &changes))
 }
 
-/// What a stop within a call leaves.
-fn left(
+/// Commits pages 0 to 2, which makes this version.
+fn commit_to<D: Disk>(
     rt: &impl Abort,
     alloc: Global,
-    disk: &MemDisk,
-    call: u64,
-    pick: Pick,
-) -> Result<MemDisk, Fail> {
-    let most = disk
-        .count(Kind::Write)
-        .saturating_add(disk.count(Kind::Sync));
-    assert!(rt; 1 <= call && call <= most.saturating_add(1));
-    Ok(disk.stopped(alloc, call, pick)?)
+    stable: &mut Stable<D>,
+    number: u64,
+    version: u64,
+) -> Result<(), Memory> {
+    let answer = commit_three(rt, alloc, stable, number)?;
+    assert_eq!(rt; answer, Ok(version));
+    Ok(())
+}
+
+/// The version of a store, and the first word of its page 0.
+fn seen<D: Disk>(
+    rt: &impl Abort,
+    alloc: Global,
+    stable: &mut Stable<D>,
+) -> Result<(u64, u64), Memory> {
+    let mut into = Frame::zero(alloc)?;
+    assert!(rt; stable.pages() >= 1);
+    assert_eq!(rt; stable.read_page(Page(0), &mut into), Ok(()));
+    Ok((stable.version(), into.get(0)))
 }
 
 /// The version of the store of a disk, and the first word of its page 0.
 fn found<D: Disk + Drop>(rt: &impl Abort, alloc: Global, disk: D) -> Result<(u64, u64), Fail> {
     let mut stable = opened(alloc, disk)?;
-    let mut into = Frame::zero(alloc)?;
-    assert!(rt; stable.pages() >= 1);
-    assert_eq!(rt; stable.read_page(Page(0), &mut into), Ok(()));
-    Ok((stable.version(), into.get(0)))
+    Ok(seen(rt, alloc, &mut stable)?)
 }

@@ -1,10 +1,29 @@
 use crate::Stable;
-use crate::tests::{commit_three, found, left, opened};
-use casper_disk::{CommitFault, DiskFault, Fail as Failing, Kind, MemDisk, Pick, Vault};
+use crate::tests::{commit_three, commit_to, formatted, found, opened};
+use casper_disk::{CommitFault, Disk, DiskFault, Fail as Failing, Kind, MemDisk, Pick, Vault};
 use casper_words::{Frame, Memory, Page};
 use std::alloc::Global;
 use std::process::Abort;
 use std::test::Fail;
+
+/// The disk, whose calls of these numbers fail from now on.
+fn armed(mut disk: MemDisk, fails: &[Failing]) -> Result<MemDisk, Memory> {
+    disk.arm(fails, 16)?;
+    Ok(disk)
+}
+
+/// The disk of a store of 1,024 pages and 9 frames.
+fn new_disk(alloc: Global) -> Result<MemDisk, Fail> {
+    let stable = formatted(alloc, MemDisk::new(alloc, 14, 32)?, 1024, 9)?;
+    Ok(stable.into_disk())
+}
+
+/// The same after one commit.
+fn disk_committed_once(rt: &impl Abort, alloc: Global) -> Result<MemDisk, Fail> {
+    let mut stable = formatted(alloc, MemDisk::new(alloc, 14, 32)?, 1024, 9)?;
+    commit_to(rt, alloc, &mut stable, 1, 2)?;
+    Ok(stable.into_disk())
+}
 
 /// A store of 1,024 pages and 9 frames, armed with faults and opened again, which has made as many commits. The opening syncs once.
 fn store_after(
@@ -13,53 +32,83 @@ fn store_after(
     commits: u64,
     fails: &[Failing],
 ) -> Result<Stable<MemDisk>, Fail> {
-    let mut stable = match Stable::format(alloc, MemDisk::new(alloc, 14, 32)?, 1024, 9) {
-        Ok(stable) => stable,
-        Err(_) => return Err("format")?,
+    let disk = match commits {
+        1 => disk_committed_once(rt, alloc)?,
+        _ => new_disk(alloc)?,
     };
-    if commits == 1 {
-        assert_eq!(rt; commit_three(rt, alloc, &mut stable, 1)?, Ok(2));
-    }
-    let mut disk = stable.into_disk();
-    disk.arm(fails, 16)?;
-    opened(alloc, disk)
+    opened(alloc, armed(disk, fails)?)
 }
 
-/// Takes what may go to another thread.
-fn hand_over<V: Vault + Drop + Send>(_vault: V) {}
+/// The number of writes and syncs of a disk.
+fn calls_of(disk: &MemDisk) -> u64 {
+    let writes = disk.count(Kind::Write);
+    writes.saturating_add(disk.count(Kind::Sync))
+}
 
-const PICKS: [Pick; 3] = [Pick::Old, Pick::New, Pick::Torn(0xEE)];
+/// The disk that a stop within a call leaves.
+fn left(
+    rt: &impl Abort,
+    alloc: Global,
+    disk: &MemDisk,
+    call: u64,
+    pick: Pick,
+) -> Result<MemDisk, Memory> {
+    let writes = disk.count(Kind::Write);
+    let most = writes.saturating_add(disk.count(Kind::Sync));
+    assert!(rt; 1 <= call && call <= most.saturating_add(1));
+    disk.stopped(alloc, call, pick)
+}
+
+/// The version that a stop within a call leaves, whose page 0 has the number of the version before as its first word.
+fn version_left(
+    rt: &impl Abort,
+    alloc: Global,
+    disk: &MemDisk,
+    call: u64,
+    pick: Pick,
+) -> Result<u64, Fail> {
+    let left = left(rt, alloc, disk, call, pick)?;
+    let (version, word) = found(rt, alloc, left)?;
+    assert_eq!(rt; word, version.saturating_sub(1), "{pick:?} at {call}");
+    Ok(version)
+}
+
+/// The version that a stop within a call leaves, for each pick.
+fn versions_left(
+    rt: &impl Abort,
+    alloc: Global,
+    disk: &MemDisk,
+    call: u64,
+) -> Result<[u64; 3], Fail> {
+    let old = version_left(rt, alloc, disk, call, Pick::Old)?;
+    let new = version_left(rt, alloc, disk, call, Pick::New)?;
+    let torn = version_left(rt, alloc, disk, call, Pick::Torn(0xEE))?;
+    Ok([old, new, torn])
+}
+
+/// A disk after a second commit. The opening's sync came before its ten calls.
+fn committed_twice(rt: &impl Abort, alloc: Global) -> Result<MemDisk, Fail> {
+    let mut stable = store_after(rt, alloc, 1, &[])?;
+    commit_to(rt, alloc, &mut stable, 2, 3)?;
+    Ok(stable.into_disk())
+}
 
 /// Calls 1 to 3 write pages, 4 a map block, 5 closes the spare gate, 6 syncs, 7 writes the body, 8 syncs, 9 opens the gate, 10
-/// syncs. Beside each call stands the version that a stop within it leaves, for each pick; 11 is after the last.
+/// syncs; 11 is after the last. For each there is the version that a stop within it leaves, for each pick.
 #[test]
 fn stops_within_the_second_commit(rt: HostRuntime) -> Result<(), Fail> {
-    let table: [(u64, [u64; 3]); 11] = [
-        (1, [2, 2, 2]),
-        (2, [2, 2, 2]),
-        (3, [2, 2, 2]),
-        (4, [2, 2, 2]),
-        (5, [2, 2, 2]),
-        (6, [2, 2, 2]),
-        (7, [2, 2, 2]),
-        (8, [2, 2, 2]),
-        (9, [2, 3, 3]),
-        (10, [2, 3, 3]),
-        (11, [3, 3, 3]),
-    ];
     let alloc = rt.alloc();
-    let mut stable = store_after(&rt, alloc, 1, &[])?;
-    assert_eq!(rt; commit_three(&rt, alloc, &mut stable, 2)?, Ok(3));
-    let disk = stable.into_disk();
-    // The opening's sync came first.
+    let disk = committed_twice(&rt, alloc)?;
     let made = (disk.count(Kind::Write), disk.count(Kind::Sync));
     assert_eq!(rt; made, (7, 4));
-    for (call, versions) in table {
-        for (pick, version) in PICKS.iter().zip(versions.iter()) {
-            let left = left(&rt, alloc, &disk, call.saturating_add(1), *pick)?;
-            let want = (*version, version.saturating_sub(1));
-            assert_eq!(rt; found(&rt, alloc, left)?, want, "{pick:?} at {call}");
-        }
+    for call in 1_u64..12 {
+        let want = match call {
+            1..=8 => [2, 2, 2],
+            9 | 10 => [2, 3, 3],
+            _ => [3, 3, 3],
+        };
+        let left = versions_left(&rt, alloc, &disk, call.saturating_add(1))?;
+        assert_eq!(rt; left, want, "at {call}");
     }
     Ok(())
 }
@@ -97,40 +146,61 @@ fn at_gate(kind: Kind, number: u64, version: u64) -> Row {
 /// The gate of slot B is known to be closed after a format, so the first commit closes none. Its opening made the first sync.
 #[test]
 fn fails_at_each_call_of_the_first_commit(rt: HostRuntime) -> Result<(), Fail> {
-    let table = [
-        before(Kind::Write, 1, 1),
-        before(Kind::Write, 2, 1),
-        before(Kind::Write, 3, 1),
-        before(Kind::Write, 4, 1),
-        before(Kind::Sync, 2, 1),
-        before(Kind::Write, 5, 1),
-        before(Kind::Sync, 3, 1),
-        at_gate(Kind::Write, 6, 1),
-        at_gate(Kind::Sync, 4, 1),
+    let early = [
+        (Kind::Write, 1),
+        (Kind::Write, 2),
+        (Kind::Write, 3),
+        (Kind::Write, 4),
+        (Kind::Sync, 2),
+        (Kind::Write, 5),
+        (Kind::Sync, 3),
     ];
-    for row in table {
-        fails_as(&rt, rt.alloc(), 0, row)?;
+    for (kind, number) in early {
+        fails_as(&rt, rt.alloc(), 0, before(kind, number, 1))?;
     }
-    Ok(())
+    fails_as(&rt, rt.alloc(), 0, at_gate(Kind::Write, 6, 1))?;
+    fails_as(&rt, rt.alloc(), 0, at_gate(Kind::Sync, 4, 1))
 }
 
 #[test]
 fn fails_at_each_call_of_the_second_commit(rt: HostRuntime) -> Result<(), Fail> {
-    let table = [
-        before(Kind::Write, 1, 2),
-        before(Kind::Write, 2, 2),
-        before(Kind::Write, 3, 2),
-        before(Kind::Write, 4, 2),
-        before(Kind::Write, 5, 2),
-        before(Kind::Sync, 2, 2),
-        before(Kind::Write, 6, 2),
-        before(Kind::Sync, 3, 2),
-        at_gate(Kind::Write, 7, 2),
-        at_gate(Kind::Sync, 4, 2),
+    let early = [
+        (Kind::Write, 1),
+        (Kind::Write, 2),
+        (Kind::Write, 3),
+        (Kind::Write, 4),
+        (Kind::Write, 5),
+        (Kind::Sync, 2),
+        (Kind::Write, 6),
+        (Kind::Sync, 3),
     ];
-    for row in table {
-        fails_as(&rt, rt.alloc(), 1, row)?;
+    for (kind, number) in early {
+        fails_as(&rt, rt.alloc(), 1, before(kind, number, 2))?;
     }
+    fails_as(&rt, rt.alloc(), 1, at_gate(Kind::Write, 7, 2))?;
+    fails_as(&rt, rt.alloc(), 1, at_gate(Kind::Sync, 4, 2))
+}
+
+/// Commits, and that fails as a row says. A commit that fails leaves the version.
+fn fails_by_row<D: Disk>(
+    rt: &impl Abort,
+    alloc: Global,
+    stable: &mut Stable<D>,
+    row: Row,
+) -> Result<(), Memory> {
+    let [version, _new, _torn] = row.left;
+    let answer = commit_three(rt, alloc, stable, version)?;
+    let in_doubt = row.fault == CommitFault::Doubt;
+    let after = (answer, stable.in_doubt(), stable.version());
+    assert_eq!(rt; after, (Err(row.fault), in_doubt, version));
+    Ok(())
+}
+
+/// A disk on which no call was made after the one that a row names, and which a stop leaves as the row says.
+fn leaves_by_row(rt: &impl Abort, alloc: Global, disk: &MemDisk, row: Row) -> Result<(), Fail> {
+    let left = versions_left(rt, alloc, disk, calls_of(disk).saturating_add(1))?;
+    let want = row.left;
+    assert_eq!(rt; (disk.count(row.kind), left), (row.number, want));
     Ok(())
 }
 
@@ -141,54 +211,56 @@ fn fails_as(rt: &impl Abort, alloc: Global, commits: u64, row: Row) -> Result<()
         number: row.number,
     }];
     let mut stable = store_after(rt, alloc, commits, &fails)?;
-    hand_over(store_after(rt, alloc, commits, &[])?);
-    let [old, next, _torn] = row.left;
-    assert_eq!(rt; commit_three(rt, alloc, &mut stable, next)?, Err(row.fault));
-    assert_eq!(rt; stable.in_doubt(), row.fault == CommitFault::Doubt);
-    assert_eq!(rt; stable.version(), old);
-    let disk = stable.into_disk();
-    assert_eq!(rt; disk.count(row.kind), row.number);
-    let calls = disk
-        .count(Kind::Write)
-        .saturating_add(disk.count(Kind::Sync));
-    for (pick, version) in PICKS.iter().zip(row.left.iter()) {
-        let left = left(rt, alloc, &disk, calls.saturating_add(1), *pick)?;
-        assert_eq!(rt; found(rt, alloc, left)?.0, *version, "{pick:?}");
-    }
+    fails_by_row(rt, alloc, &mut stable, row)?;
+    leaves_by_row(rt, alloc, &stable.into_disk(), row)
+}
+
+/// Commits, and that ends in doubt.
+fn doubts<D: Disk>(rt: &impl Abort, alloc: Global, stable: &mut Stable<D>) -> Result<(), Memory> {
+    let answer = commit_three(rt, alloc, stable, 2)?;
+    assert_eq!(rt; answer, Err(CommitFault::Doubt));
     Ok(())
 }
 
-/// Settles, as a call of its own.
-fn settled(stable: &mut Stable<MemDisk>) -> Result<u64, DiskFault> {
-    stable.settle()
+/// What a settle answers, and whether the commit is in doubt after it.
+fn settled<D: Disk>(stable: &mut Stable<D>) -> (Result<u64, DiskFault>, bool) {
+    (stable.settle(), stable.in_doubt())
+}
+
+/// The first settle fails, the second settles, and a third changes nothing.
+fn settles<D: Disk>(rt: &impl Abort, stable: &mut Stable<D>) {
+    let answers = [settled(stable), settled(stable), settled(stable)];
+    let failed = (Err(DiskFault::Failed), true);
+    assert_eq!(rt; answers, [failed, (Ok(3), false), (Ok(3), false)]);
+}
+
+/// A fault brings the second commit in doubt, and the sync of this number fails too.
+fn settles_after(rt: &impl Abort, alloc: Global, fault: Failing, sync: u64) -> Result<(), Fail> {
+    let again = Failing {
+        kind: Kind::Sync,
+        number: sync,
+    };
+    let mut stable = store_after(rt, alloc, 1, &[fault, again])?;
+    doubts(rt, alloc, &mut stable)?;
+    settles(rt, &mut stable);
+    let left = found(rt, alloc, stable.into_disk())?;
+    assert_eq!(rt; left, (3, 2));
+    Ok(())
 }
 
 #[test]
 fn settles_forward(rt: HostRuntime) -> Result<(), Fail> {
-    let alloc = rt.alloc();
-    for (kind, number) in [(Kind::Write, 7), (Kind::Sync, 4)] {
-        let again = Failing {
-            kind: Kind::Sync,
-            number: if kind == Kind::Write { 4 } else { 5 },
-        };
-        let fails = [Failing { kind, number }, again];
-        let mut stable = store_after(&rt, alloc, 1, &fails)?;
-        let fault = CommitFault::Doubt;
-        assert_eq!(rt; commit_three(&rt, alloc, &mut stable, 2)?, Err(fault));
-        assert_eq!(rt; settled(&mut stable), Err(DiskFault::Failed));
-        assert!(rt; stable.in_doubt());
-        assert_eq!(rt; settled(&mut stable), Ok(3));
-        assert_eq!(rt; settled(&mut stable), Ok(3));
-        assert_eq!(rt; found(&rt, alloc, stable.into_disk())?, (3, 2));
+    for (kind, number, sync) in [(Kind::Write, 7, 4), (Kind::Sync, 4, 5)] {
+        settles_after(&rt, rt.alloc(), Failing { kind, number }, sync)?;
     }
     Ok(())
 }
 
 /// Commits zeros to page 0.
-fn commit_one(
+fn commit_one<D: Disk>(
     rt: &impl Abort,
     alloc: Global,
-    stable: &mut Stable<MemDisk>,
+    stable: &mut Stable<D>,
 ) -> Result<Result<u64, CommitFault>, Memory> {
     assert!(rt; stable.pages() >= 1);
     assert!(rt; !stable.in_doubt());
@@ -197,10 +269,10 @@ fn commit_one(
 }
 
 /// Commits zeros to page 0 and to the first page of the second map block.
-fn commit_two(
+fn commit_two<D: Disk>(
     rt: &impl Abort,
     alloc: Global,
-    stable: &mut Stable<MemDisk>,
+    stable: &mut Stable<D>,
 ) -> Result<Result<u64, CommitFault>, Memory> {
     assert!(rt; stable.pages() >= 1025);
     assert!(rt; !stable.in_doubt());
@@ -211,20 +283,32 @@ fn commit_two(
     Ok(stable.commit(alloc, &changes))
 }
 
+/// Takes what may go to another thread.
+fn hand_over<V: Vault + Drop + Send>(_vault: V) {}
+
+/// Commits two pages, then one page twice.
+fn runs_out_of_frames<D: Disk>(
+    rt: &impl Abort,
+    alloc: Global,
+    stable: &mut Stable<D>,
+) -> Result<(), Memory> {
+    let two = commit_two(rt, alloc, stable)?;
+    let one = commit_one(rt, alloc, stable)?;
+    let counts = (stable.used(), stable.frames());
+    let again = commit_one(rt, alloc, stable)?;
+    assert_eq!(rt; counts, (2, 3));
+    let lacks_one = Err(CommitFault::Full { need: 4, free: 3 });
+    let full = Err(CommitFault::Full { need: 2, free: 1 });
+    assert_eq!(rt; [two, one, again], [lacks_one, Ok(2), full]);
+    Ok(())
+}
+
 /// Two pages of two map blocks need four frames. A page that has a frame needs a new one, and a new frame for its map block.
 #[test]
 fn needs_a_frame_for_each_page_and_map_block(rt: HostRuntime) -> Result<(), Fail> {
     let alloc = rt.alloc();
-    let disk = MemDisk::new(alloc, 8, 32)?;
-    let mut stable = match Stable::format(alloc, disk, 2048, 3) {
-        Ok(stable) => stable,
-        Err(_) => return Err("format")?,
-    };
-    let full = CommitFault::Full { need: 4, free: 3 };
-    assert_eq!(rt; commit_two(&rt, alloc, &mut stable)?, Err(full));
-    assert_eq!(rt; commit_one(&rt, alloc, &mut stable)?, Ok(2));
-    assert_eq!(rt; (stable.used(), stable.frames()), (2, 3));
-    let full = CommitFault::Full { need: 2, free: 1 };
-    assert_eq!(rt; commit_one(&rt, alloc, &mut stable)?, Err(full));
+    let mut stable = formatted(alloc, MemDisk::new(alloc, 8, 32)?, 2048, 3)?;
+    runs_out_of_frames(&rt, alloc, &mut stable)?;
+    hand_over(stable);
     Ok(())
 }

@@ -2,8 +2,8 @@ ghost use Rattle.std.specs.Prelude.{◌≡◌, ◌≤◌, ℕ, Bool, false, List
 ghost use Rattle.casper_words.specs.Count.{FaultCountRose};
 ghost use Rattle.casper_disk.specs.Disk.{none_loose, untold};
 
-use crate::Stable;
-use crate::tests::{commit_three, found, opened};
+use crate::tests::opening::refusal;
+use crate::tests::{commit_three, commit_to, formatted, found, opened};
 use casper_disk::{CommitFault, Disk, DiskFault, FileDisk, FileShelf, Shelf};
 use casper_root::OpenFault;
 use casper_words::Block;
@@ -121,24 +121,65 @@ fn file_disk<R: Files<File = File>>(
     }
 }
 
-/// Makes a store of 1,024 pages and 9 frames in a file of this name, and commits once.
+/// The disk over a new file of this name, of 14 blocks.
+fn new_disk<R: Files<File = File>>(
+    alloc: Global,
+    shelf: &mut FileShelf<R>,
+    name: &[u8],
+) -> Result<FileDisk, Fail> {
+    match shelf.make(alloc, name, 14) {
+        Ok(disk) => Ok(disk),
+        Err(_) => Err("make")?,
+    }
+}
+
+/// Makes a store of 1,024 pages and 9 frames on a disk, and commits once.
+fn committed_once<D: Disk + Drop>(rt: &impl Abort, alloc: Global, disk: D) -> Result<D, Fail> {
+    let mut stable = formatted(alloc, disk, 1024, 9)?;
+    commit_to(rt, alloc, &mut stable, 1, 2)?;
+    Ok(stable.into_disk())
+}
+
+/// Opens a store and commits once more: what that answers, and the disk after it.
+fn committed_again<D: Disk + Drop>(
+    rt: &impl Abort,
+    alloc: Global,
+    disk: D,
+) -> Result<(Result<u64, CommitFault>, D), Fail> {
+    let mut stable = opened(alloc, disk)?;
+    let answer = commit_three(rt, alloc, &mut stable, 2)?;
+    Ok((answer, stable.into_disk()))
+}
+
+/// Makes a store in a file of this name, and commits once.
 fn make<R: Files<File = File>>(
     rt: &impl Abort,
     alloc: Global,
     shelf: &mut FileShelf<R>,
     name: &[u8],
 ) -> Result<(), Fail> {
-    let disk = match shelf.make(alloc, name, 14) {
-        Ok(disk) => disk,
-        Err(_) => return Err("make")?,
-    };
-    let mut stable = match Stable::format(alloc, disk, 1024, 9) {
-        Ok(stable) => stable,
-        Err(_) => return Err("format")?,
-    };
-    assert_eq!(rt; commit_three(rt, alloc, &mut stable, 1)?, Ok(2));
-    shelf.close(name, stable.into_disk());
+    let disk = new_disk(alloc, shelf, name)?;
+    let disk = committed_once(rt, alloc, disk)?;
+    shelf.close(name, disk);
     Ok(())
+}
+
+/// What the second commit answers in a process that ends after so many of its calls. The opening syncs once before them.
+fn commit_ending<R: Files<File = File>>(
+    rt: &impl Abort,
+    alloc: Global,
+    shelf: &mut FileShelf<R>,
+    name: &[u8],
+    calls: u32,
+) -> Result<Result<u64, CommitFault>, Fail> {
+    let disk = Ending {
+        disk: file_disk(alloc, shelf, name)?,
+        calls: calls.saturating_add(1),
+        faults: 0,
+    };
+    let (answer, ended) = committed_again(rt, alloc, disk)?;
+    shelf.close(name, ended.disk);
+    Ok(answer)
 }
 
 /// The second commit makes ten calls. A process that ends before the ninth leaves the first commit, and one that ends after it the
@@ -149,27 +190,18 @@ fn a_process_ends_between_two_calls(rt: HostRuntime) -> Result<(), Fail> {
     let name = path.as_bytes();
     let alloc = rt.alloc();
     let mut shelf = FileShelf::new(rt.clone()?);
-    let table = [2, 2, 2, 2, 2, 2, 2, 2, 2, 3, 3];
-    for (calls, version) in table.iter().enumerate() {
+    for calls in 0_u32..11 {
         let _old = fs::remove_file(&rt, path);
         make(&rt, alloc, &mut shelf, name)?;
-        let disk = Ending {
-            disk: file_disk(alloc, &mut shelf, name)?,
-            // The opening syncs once.
-            calls: calls as u32 + 1,
-            faults: 0,
-        };
-        let mut stable = opened(alloc, disk)?;
+        let answer = commit_ending(&rt, alloc, &mut shelf, name, calls)?;
+        let left = found(&rt, alloc, file_disk(alloc, &mut shelf, name)?)?;
         let want = match calls {
-            10 => Ok(3),
-            8 | 9 => Err(CommitFault::Doubt),
-            _ => Err(CommitFault::Disk),
+            0..=7 => (Err(CommitFault::Disk), (2, 1)),
+            8 => (Err(CommitFault::Doubt), (2, 1)),
+            9 => (Err(CommitFault::Doubt), (3, 2)),
+            _ => (Ok(3), (3, 2)),
         };
-        assert_eq!(rt; commit_three(&rt, alloc, &mut stable, 2)?, want, "{calls}");
-        shelf.close(name, stable.into_disk().disk);
-        let disk = file_disk(alloc, &mut shelf, name)?;
-        let left = found(&rt, alloc, disk)?;
-        assert_eq!(rt; left, (*version, *version - 1), "{calls}");
+        assert_eq!(rt; (answer, left), want, "{calls}");
     }
     fs::remove_file(&rt, path)?;
     Ok(())
@@ -180,11 +212,8 @@ fn a_short_file_is_refused(rt: HostRuntime) -> Result<(), Fail> {
     let path = "casper_stable_short_test";
     fs::create(&rt, path)?.set_len(4095)?;
     let disk = FileDisk::new(fs::open(&rt, path)?)?;
-    let fault = match Stable::open(rt.alloc(), disk) {
-        Ok(_) => None,
-        Err((_, fault)) => Some(fault),
-    };
-    assert_eq!(rt; fault, Some(OpenFault::Short { need: 5, have: 0 }));
+    let short = OpenFault::Short { need: 5, have: 0 };
+    assert_eq!(rt; refusal(rt.alloc(), disk), Some(short));
     fs::remove_file(&rt, path)?;
     Ok(())
 }

@@ -1,9 +1,11 @@
 use crate::Stable;
 use crate::tests::noted::{Call, Noted};
+use crate::tests::{formatted, opened};
 use casper_disk::{Disk, Fail as Failing, Kind, MemDisk};
 use casper_root::OpenFault;
 use casper_words::Block;
 use std::alloc::Global;
+use std::process::Abort;
 use std::test::Fail;
 
 /// Bytes that are written over those of a block from a place on.
@@ -16,13 +18,11 @@ pub struct Patch {
 
 /// A new store of 1,024 pages and 3 frames.
 pub fn new_store(alloc: Global) -> Result<MemDisk, Fail> {
-    match Stable::format(alloc, MemDisk::new(alloc, 8, 32)?, 1024, 3) {
-        Ok(stable) => Ok(stable.into_disk()),
-        Err(_) => Err("format")?,
-    }
+    let stable = formatted(alloc, MemDisk::new(alloc, 8, 32)?, 1024, 3)?;
+    Ok(stable.into_disk())
 }
 
-pub fn overwrite(alloc: Global, disk: &mut MemDisk, patch: &Patch) -> Result<(), Fail> {
+pub fn overwrite<D: Disk>(alloc: Global, disk: &mut D, patch: &Patch) -> Result<(), Fail> {
     if patch.at >= disk.blocks() || patch.from > 4092 {
         return Err("no such bytes")?;
     }
@@ -34,7 +34,7 @@ pub fn overwrite(alloc: Global, disk: &mut MemDisk, patch: &Patch) -> Result<(),
 }
 
 /// Why a disk is refused.
-pub fn refusal(alloc: Global, disk: MemDisk) -> Option<OpenFault> {
+pub fn refusal<D: Disk + Drop>(alloc: Global, disk: D) -> Option<OpenFault> {
     match Stable::open(alloc, disk) {
         Ok(_) => None,
         Err((_, fault)) => Some(fault),
@@ -54,98 +54,112 @@ fn refusal_with(
 }
 
 #[test]
+fn refuses_a_disk_of_four_blocks(rt: HostRuntime) -> Result<(), Fail> {
+    let short = refusal(rt.alloc(), MemDisk::new(rt.alloc(), 4, 0)?);
+    assert_eq!(rt; short, Some(OpenFault::Short { need: 5, have: 4 }));
+    Ok(())
+}
+
+#[test]
 fn refuses_each_header(rt: HostRuntime) -> Result<(), Fail> {
     let alloc = rt.alloc();
-    let short = refusal(alloc, MemDisk::new(alloc, 4, 0)?);
-    assert_eq!(rt; short, Some(OpenFault::Short { need: 5, have: 4 }));
-    assert_eq!(rt;
-        refusal_with(alloc, 0, 0, *b"CASK")?,
-        Some(OpenFault::NotAStore)
-    );
-    assert_eq!(rt;
-        refusal_with(alloc, 0, 4, *b"ER0x")?,
-        Some(OpenFault::NotAStore)
-    );
-    assert_eq!(rt;
-        refusal_with(alloc, 0, 4, *b"ER07")?,
-        Some(OpenFault::Version(7))
-    );
     let pages = OpenFault::BadSize {
         pages: 0,
         frames: 3,
     };
-    assert_eq!(rt; refusal_with(alloc, 0, 8, [0; 4])?, Some(pages));
     let need = OpenFault::Short { need: 9, have: 8 };
-    assert_eq!(rt; refusal_with(alloc, 0, 12, [4, 0, 0, 0])?, Some(need));
+    let table = [
+        (0, *b"CASK", OpenFault::NotAStore),
+        (4, *b"ER0x", OpenFault::NotAStore),
+        (4, *b"ER07", OpenFault::Version(7)),
+        (8, [0; 4], pages),
+        (12, [4, 0, 0, 0], need),
+    ];
+    for (from, bytes, fault) in table {
+        let refused = refusal_with(alloc, 0, from, bytes)?;
+        assert_eq!(rt; refused, Some(fault), "at {from}");
+    }
     Ok(())
 }
 
 #[test]
 fn refuses_each_root(rt: HostRuntime) -> Result<(), Fail> {
     let alloc = rt.alloc();
-    assert_eq!(rt; refusal_with(alloc, 2, 0, [0; 4])?, Some(OpenFault::NoRoot));
-    let count = OpenFault::BadBody { seq: 1, count: 17 };
-    assert_eq!(rt; refusal_with(alloc, 1, 8, [17, 0, 0, 0])?, Some(count));
-    let number = OpenFault::BadBody { seq: 0, count: 1 };
-    assert_eq!(rt; refusal_with(alloc, 1, 0, [0; 4])?, Some(number));
-    let past = OpenFault::BadMap { page: 0, frame: 3 };
-    assert_eq!(rt; refusal_with(alloc, 1, 12, [3, 0, 0, 0])?, Some(past));
-    let own = OpenFault::BadMap { page: 0, frame: 0 };
-    assert_eq!(rt; refusal_with(alloc, 1, 12, [0; 4])?, Some(own));
+    let table = [
+        (2, 0, [0; 4], OpenFault::NoRoot),
+        (
+            1,
+            8,
+            [17, 0, 0, 0],
+            OpenFault::BadBody { seq: 1, count: 17 },
+        ),
+        (1, 0, [0; 4], OpenFault::BadBody { seq: 0, count: 1 }),
+        (1, 12, [3, 0, 0, 0], OpenFault::BadMap { page: 0, frame: 3 }),
+        (1, 12, [0; 4], OpenFault::BadMap { page: 0, frame: 0 }),
+    ];
+    for (at, from, bytes, fault) in table {
+        let refused = refusal_with(alloc, at, from, bytes)?;
+        assert_eq!(rt; refused, Some(fault), "at {from} of {at}");
+    }
     Ok(())
 }
 
-/// Map block 0 is in frame 0; of its entries 0 to 8 the first eight have no frame, and entry 8 has a number equal to the frames.
-#[test]
-fn refuses_a_page_past_the_frames(rt: HostRuntime) -> Result<(), Fail> {
-    let alloc = rt.alloc();
+/// A new store whose map block 0 is in frame 0; of its entries 0 to 8 the first eight have no frame, and entry 8 has a number equal
+/// to the frames.
+fn past_the_frames(alloc: Global) -> Result<MemDisk, Fail> {
     let mut disk = new_store(alloc)?;
     for entry in 0..9 {
-        let bytes = if entry < 8 { [0xFF; 4] } else { [3, 0, 0, 0] };
-        overwrite(
-            alloc,
-            &mut disk,
-            &Patch {
-                at: 5,
-                from: 4 * entry,
-                bytes,
-            },
-        )?;
+        let patch = Patch {
+            at: 5,
+            from: 4 * entry,
+            bytes: if entry < 8 { [0xFF; 4] } else { [3, 0, 0, 0] },
+        };
+        overwrite(alloc, &mut disk, &patch)?;
     }
-    overwrite(
-        alloc,
-        &mut disk,
-        &Patch {
-            at: 1,
-            from: 12,
-            bytes: [0; 4],
-        },
-    )?;
+    let map = Patch {
+        at: 1,
+        from: 12,
+        bytes: [0; 4],
+    };
+    overwrite(alloc, &mut disk, &map)?;
+    Ok(disk)
+}
+
+#[test]
+fn refuses_a_page_past_the_frames(rt: HostRuntime) -> Result<(), Fail> {
+    let disk = past_the_frames(rt.alloc())?;
     let past = OpenFault::BadMap { page: 8, frame: 3 };
-    assert_eq!(rt; refusal(alloc, disk), Some(past));
+    assert_eq!(rt; refusal(rt.alloc(), disk), Some(past));
     Ok(())
+}
+
+/// Why a new store is refused on a disk of which one call fails.
+fn refusal_armed(alloc: Global, fail: Failing) -> Result<Option<OpenFault>, Fail> {
+    let mut disk = new_store(alloc)?;
+    disk.arm(&[fail], 4)?;
+    Ok(refusal(alloc, disk))
 }
 
 /// The first read, the fifth and the last sync fail.
 #[test]
 fn tells_a_disk_that_fails(rt: HostRuntime) -> Result<(), Fail> {
-    let alloc = rt.alloc();
     for (kind, number) in [(Kind::Read, 1), (Kind::Read, 5), (Kind::Sync, 1)] {
-        let mut disk = new_store(alloc)?;
-        disk.arm(&[Failing { kind, number }], 4)?;
-        assert_eq!(rt; refusal(alloc, disk), Some(OpenFault::Disk));
+        let refused = refusal_armed(rt.alloc(), Failing { kind, number })?;
+        assert_eq!(rt; refused, Some(OpenFault::Disk));
     }
     Ok(())
 }
 
+/// How many frames the store of a disk has, and how many of them its root names.
+fn frames_of<D: Disk + Drop>(alloc: Global, disk: D) -> Result<(u32, u32), Fail> {
+    let stable = opened(alloc, disk)?;
+    Ok((stable.frames(), stable.used()))
+}
+
 #[test]
 fn opens_what_was_formatted(rt: HostRuntime) -> Result<(), Fail> {
-    let alloc = rt.alloc();
-    let stable = match Stable::open(alloc, new_store(alloc)?) {
-        Ok(stable) => stable,
-        Err(_) => return Err("refused")?,
-    };
-    assert_eq!(rt; (stable.frames(), stable.used()), (3, 0));
+    let frames = frames_of(rt.alloc(), new_store(rt.alloc())?)?;
+    assert_eq!(rt; frames, (3, 0));
     Ok(())
 }
 
@@ -160,20 +174,41 @@ fn format_refusal(alloc: Global, pages: u32, frames: u32) -> Result<Option<OpenF
 #[test]
 fn refuses_sizes_before_blocks(rt: HostRuntime) -> Result<(), Fail> {
     let alloc = rt.alloc();
-    let pages = OpenFault::BadSize {
+    let both = OpenFault::BadSize {
         pages: 16_385,
         frames: 65_536,
     };
-    assert_eq!(rt; format_refusal(alloc, 16_385, 65_536)?, Some(pages));
     let frames = OpenFault::BadSize {
         pages: 1,
         frames: 1,
     };
-    assert_eq!(rt; format_refusal(alloc, 1, 1)?, Some(frames));
     let need = OpenFault::Short { need: 9, have: 8 };
-    assert_eq!(rt; format_refusal(alloc, 16_384, 4)?, Some(need));
-    assert_eq!(rt; format_refusal(alloc, 16_384, 3)?, None);
+    let table = [
+        (16_385, 65_536, Some(both)),
+        (1, 1, Some(frames)),
+        (16_384, 4, Some(need)),
+        (16_384, 3, None),
+    ];
+    for (pages, frames, fault) in table {
+        let refused = format_refusal(alloc, pages, frames)?;
+        assert_eq!(rt; refused, fault, "{pages} and {frames}");
+    }
     Ok(())
+}
+
+/// The disk after a format of which one call may fail.
+fn format_noted(alloc: Global, failing: usize) -> Noted {
+    match Stable::format(alloc, Noted::new(failing), 1024, 3) {
+        Ok(stable) => stable.into_disk(),
+        Err((disk, _)) => disk,
+    }
+}
+
+/// The disk made as many of these calls, and no other.
+fn expect_calls(rt: &impl Abort, disk: &Noted, made: usize, table: &[Call; 6]) {
+    assert_eq!(rt; disk.count, made);
+    assert!(rt; disk.count <= 6);
+    assert_eq!(rt; &disk.calls[..disk.count], &table[..disk.count]);
 }
 
 /// After a failed call no later one is made.
@@ -188,14 +223,9 @@ fn formats_by_the_calls_of_the_table(rt: HostRuntime) -> Result<(), Fail> {
         Call::Sync,
     ];
     for failing in 0..7 {
-        let disk = match Stable::format(rt.alloc(), Noted::new(failing), 1024, 3) {
-            Ok(stable) => stable.into_disk(),
-            Err((disk, _)) => disk,
-        };
+        let disk = format_noted(rt.alloc(), failing);
         let made = if failing == 0 { 6 } else { failing };
-        assert_eq!(rt; disk.count, made);
-        assert!(rt; disk.count <= 6);
-        assert_eq!(rt; &disk.calls[..disk.count], &table[..disk.count]);
+        expect_calls(&rt, &disk, made, &table);
     }
     Ok(())
 }
