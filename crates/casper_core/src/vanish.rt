@@ -15,7 +15,7 @@ use casper_trail::Mark;
 use casper_words::Who;
 
 impl<V: Vault> Core<V> {
-    /// A client vanishes: its association is rolled back, and it has no cache any more. It takes no memory.
+    /// A client vanishes: its association is rolled back, or its loss is noted, and it has no cache any more. It takes no memory.
     pub(crate) fn vanish(&mut self, who: Who) -> Answer
         ensures step { IsTrue V.tells → Steps (event.Vanish who) result self.old self.new }
         ensures shape { StepsInShape (event.Vanish who) result self.old self.new }

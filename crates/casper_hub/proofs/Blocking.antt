@@ -1,5 +1,5 @@
 use Rattle.std.proofs.Common.{◌≡◌, ◌≢◌, ℕ, List, [], ◌∷◌, Bool, true, false, cond, not, ◌&&◌, ◌||◌, ◌==◌, eq-eqb, map, filter, refl, sym, ap, ap₂, ◌∙◌, ⊎_elim}
-use Rattle.std.specs.Prelude.{Option, None, Some, filter_map, find, slice_get, option_map}
+use Rattle.std.specs.Prelude.{Option, None, Some}
 use Rattle.std.specs.Option.{option_or}
 use Rattle.std.specs.List.{list_any}
 use Rattle.std.proofs.lemmas.Bool.{cases_eq}
@@ -11,12 +11,11 @@ use Rattle.casper_words.specs.declared.page.Want.{Want}
 use Rattle.casper_dir.specs.Holding.{is_in_conflict}
 use Rattle.casper_cache.specs.Own as cache
 use Rattle.casper_model.specs.declared.reply.Reply.{Reply}
-use Rattle.casper_model.specs.declared.reply.Reply.TheVariants.{Pending, Frozen, InDoubt}
+use Rattle.casper_model.specs.declared.reply.Reply.TheVariants.{Pending}
 use Rattle.casper_model.specs.Held.{is_of, is_to_write, covers, allows, missing_of}
-use Rattle.casper_model.specs.Stabilisation.{Stabilisation, is_doubtful, is_empty}
+use Rattle.casper_model.specs.Stabilisation.{is_empty}
 use Rattle.casper_model.specs.Shared.{Shared, rights_at, asks_at, of_client}
 use Rattle.casper_model.specs.Own.{Own}
-use Rattle.casper_model.specs.Frozen.{is_member, is_modified_in}
 use Rattle.casper_model.specs.Opening as opening
 use Rattle.casper_model.specs.Opening.{opened, begun, given_in_opening, any_right}
 use Rattle.casper_model.specs.Acquire.{refused_in_doubt, refused_frozen, refused_pending, refused_missing, blocks, is_blocked, blocked_of, blockers_of}
@@ -30,7 +29,10 @@ use Rattle.casper_hub.specs.Deciding.{is_given, is_missing, missing_in, stands_i
 use Rattle.casper_hub.proofs.Whole.{Whole, Owning}
 use Rattle.casper_hub.proofs.Showing.{allows_right, asks_shown}
 use Rattle.casper_hub.proofs.KeptPages.{any_same, filter_same, asked_same, is_given_up}
-use Rattle.casper_hub.proofs.OpenedTurns.{kept_held, right_kept_held, distinct_kept_held, own_opened, asks_begun, have_rights_held}
+use Rattle.casper_hub.proofs.OpenedTurns.{kept_held, right_kept_held, distinct_kept_held, asks_begun, have_rights_held}
+use Rattle.casper_hub.proofs.TurnOpened.{own_opened}
+use Rattle.casper_hub.specs.Stages.{gathering_in}
+use Rattle.casper_frozen.specs.Refused.{refused_at_once}
 
 -- what stands in the way of a want, among rights that permit what one right does
 conflict_permitted : (rights : List Want) (page : ℕ) (wanted : Right) (right : Option Right) → ((r : Right) → allows rights page r ≡ permits right r)
@@ -71,10 +73,10 @@ other_alone who other one two same =
 -- What follows speaks of one acquire: of the machine's shared part and of the hub that stands for it, of the cache, and of the wants.
 
 -- the wants that the machine finds missing are those that the hub does
-pub missing_same : (shared : Shared) (hub : HubView) (own : cache.Own) (wants : List Want) → Shows shared hub → Whole hub → Owning hub own
+pub missing_same : (shared : Shared) (hub : HubView) (own : cache.Own) (wants : List Want) → Shows shared hub → Whole hub → Owning hub own → gathering_in hub own.client ≡ None
     → missing_of (opened shared (own_of own)).own.held wants ≡ missing_in hub.pages hub.clients own.client wants
-missing_same shared hub own wants shows sound owns =
-    ap (λ (o : Own). missing_of o.held wants) (own_opened shared hub own shows sound owns)
+missing_same shared hub own wants shows sound owns apart =
+    ap (λ (o : Own). missing_of o.held wants) (own_opened shared hub own shows sound owns apart)
     ∙ filter_same (λ want. not (allows (wants_of (kept_held hub own)) want.page want.right)) (is_missing hub.pages hub.clients own.client)
     (λ want. ap not (allows_right (kept_held hub own) (distinct_kept_held hub own owns) want.page want.right
     ∙ ap (λ right. permits right want.right) (right_kept_held hub own sound owns want.page))) wants
@@ -135,23 +137,6 @@ blocked_same shared hub own missing shows sound owns =
     (stands_in_the_way hub.pages hub.clients own.client want) (blocks_same shared hub own shows sound owns want) clients)
     missing
 
--- where nothing is being made stable, nothing is refused as in doubt or frozen
-none_in_doubt : (shared : Shared) (who : ℕ) (missing : List Want) → shared.stabilisations ≡ [] → refused_in_doubt shared who missing ≡ None
-none_in_doubt shared who missing none =
-    ap (λ list. cond (list_any (λ one. is_doubtful one.phase && (is_member shared who one || list_any (λ want. is_modified_in shared want.page one) missing)) list) (Some InDoubt) None) none
-
-none_frozen : (shared : Shared) (who : ℕ) (missing : List Want) → shared.stabilisations ≡ [] → refused_frozen shared who missing ≡ None
-none_frozen shared who missing none =
-    ap (λ list. frozen_among (filter (λ one. not (is_doubtful one.phase)) list)) none ∙ ap (λ (list : List Stabilisation). option_map Frozen (option_map (λ (one : Stabilisation). one.lead) (slice_get list 0))) (nowhere missing)
-  where
-    frozen_among : List Stabilisation → Option Reply
-    frozen_among frozen =
-        option_map Frozen (option_map (λ (one : Stabilisation). one.lead) (option_or (find (is_member shared who) frozen) (slice_get (filter_map (λ want. find (is_modified_in shared want.page) frozen) missing) 0)))
-
-    nowhere : (missing : List Want) → filter_map (λ (want : Want). find (is_modified_in shared want.page) []) missing ≡ []
-    nowhere [] = refl
-    nowhere (want ∷ missing) = nowhere missing
-
 -- nobody stands in the way of nothing
 nobody_blocks_nothing : is_empty (crew_of (λ other. false)) ≡ true
 unfolding crew_of
@@ -161,8 +146,27 @@ nobody_blocks_nothing = ap is_empty (empty_filter clients)
     empty_filter [] = refl
     empty_filter (x ∷ xs) = empty_filter xs
 
-pub refused_as_pending : (shared : Shared) (who : ℕ) (given : List ℕ) (missing : List Want) → shared.stabilisations ≡ []
+-- two refusals that are none
+neither_refused : (one other : Option Reply) → option_or one other ≡ None → (one ≡ None) × (other ≡ None)
+neither_refused None other e = (refl, e)
+neither_refused (Some reply) other e = cc
+
+-- what is not refused at once is refused for who stands in the way
+pub refused_as_pending : (shared : Shared) (who : ℕ) (given : List ℕ) (missing : List Want) → refused_at_once shared who missing ≡ None
     → refused_missing shared who given missing ≡ refused_pending shared who given missing
-refused_as_pending shared who given [] none = sym (ap (λ b. cond b None (Some (Pending (crew_of (λ other. false))))) nobody_blocks_nothing)
-refused_as_pending shared who given (want ∷ missing) none =
-    ap₂ (λ a b. option_or a (option_or b (refused_pending shared who given (want ∷ missing)))) (none_in_doubt shared who (want ∷ missing) none) (none_frozen shared who (want ∷ missing) none)
+refused_as_pending shared who given [] free = sym (ap (λ b. cond b None (Some (Pending (crew_of (λ other. false))))) nobody_blocks_nothing)
+refused_as_pending shared who given (want ∷ missing) free =
+    let none = neither_refused (refused_in_doubt shared who (want ∷ missing)) (refused_frozen shared who (want ∷ missing)) free in
+    ap₂ (λ a b. option_or a (option_or b (refused_pending shared who given (want ∷ missing)))) none.0 none.1
+
+-- and what is refused at once is refused for that
+pub refused_first : (shared : Shared) (who : ℕ) (given : List ℕ) (missing : List Want) (reply : Reply) → refused_at_once shared who missing ≡ Some reply
+    → refused_missing shared who given missing ≡ Some reply
+refused_first shared who given [] reply refused = cc
+refused_first shared who given (want ∷ missing) reply refused =
+    by (refused_in_doubt shared who (want ∷ missing)) (refused_frozen shared who (want ∷ missing)) refused
+  where
+    by : (one other : Option Reply) → option_or one other ≡ Some reply → option_or one (option_or other (refused_pending shared who given (want ∷ missing))) ≡ Some reply
+    by (Some first) other e = e
+    by None (Some second) e = e
+    by None None e = cc

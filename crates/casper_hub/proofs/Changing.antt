@@ -20,9 +20,10 @@ use Rattle.casper_trail.proofs.LinkLists.{contains_there}
 use Rattle.casper_dir.specs.declared.holders.Holders.{Holders}
 use Rattle.casper_dir.specs.declared.holders.Holders.TheVariants.{Readers, Writer}
 use Rattle.casper_dir.specs.Rights.{right_at, AreAllClients}
+use Rattle.casper_model.specs.Stabilisation.{Stabilisation}
 use Rattle.casper_turns.proofs.Lists.{any_none}
 use Rattle.casper_hub.specs.HubView.{HubView, ClientView, PagesView, client_in, asks_of, frame_in, page_count}
-use Rattle.casper_hub.specs.Sound.{IsWellFormed, IsPlain}
+use Rattle.casper_hub.specs.Sound.{IsWellFormed}
 
 -- who has a right to a page is a client
 pub holder_is_client : (rights : List Holders) (page who : ℕ) (right : Right) → AreAllClients rights → right_at rights who page ≡ Some right → IsClient who
@@ -96,9 +97,17 @@ modified_elsewhere trail more page apart =
     ∙ ap (λ b. is_modified trail page || b) (any_none (writes_page page) more (λ entry inside writes. true≢false (sym writes ∙ apart entry inside)))
     ∙ or-false (is_modified trail page)
 
--- a client of which no outcome is kept
-abbrev pub IsPlainPlace : Option ClientView → Type 0
-IsPlainPlace place = (client : ClientView) → place ≡ Some client → client.kept ≡ None
+-- the parts of a hub fit together whatever its stabilisations are
+pub formed_beside : (hub : HubView) (stabilisations : List Stabilisation) → IsWellFormed hub → IsWellFormed (record hub { stabilisations = stabilisations })
+formed_beside hub stabilisations formed = record {
+  places = formed.places;
+  holders = formed.holders;
+  frames = formed.frames;
+  short = formed.short;
+  fits = formed.fits;
+  framed = formed.framed;
+  asked = formed.asked;
+}
 
 -- a hub of which the trail, one client and the pages change
 abbrev pub changed : HubView → List Item → ℕ → Option ClientView → PagesView → HubView
@@ -139,13 +148,4 @@ module _ (hub : HubView) (trail : List Item) (who : ℕ) (place : Option ClientV
     where
       any : (other page : ℕ) → other ≢ who → right_at pages.rights other page ≡ right_at hub.pages.rights other page
       any other page differ = same_rights hub.pages.rights pages.rights page other formed.holders holders (λ is. others other page is differ)
-
-  -- and no outcome is kept where none is for that one
-  pub plain_changed : IsPlain hub → length hub.clients ≡ 33 → IsClient who → IsPlainPlace place → IsPlain (changed hub trail who place pages)
-  plain_changed plain long client unkept = record {
-    quiet = plain.quiet;
-    unkept = λ other one is. ⊎_elim
-        (λ same. unkept one (sym (changed_here long client) ∙ sym (ap (λ (w : ℕ). client_in (changed hub trail who place pages) w) same) ∙ is))
-        (λ differ. plain.unkept other one (sym (changed_elsewhere other differ) ∙ is))
-        (cases_eq other who);
-  }
+      -- and nothing is being made stable where nothing was

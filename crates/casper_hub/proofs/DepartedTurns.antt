@@ -12,7 +12,8 @@ use Rattle.casper_model.specs.Shared.{Shared, client_at, fallen_at, rights_at, o
 use Rattle.casper_model.specs.Held.{allows}
 use Rattle.casper_model.specs.Own.{Own, blank}
 use Rattle.casper_model.specs.Both.{Both}
-use Rattle.casper_model.specs.Opening.{opened}
+use Rattle.casper_words.specs.declared.call.Call.{Call}
+use Rattle.casper_model.specs.Opening.{begun, given_up, gathering_of, handed_in_to, opened}
 use Rattle.casper_model.specs.Acquire as acquiring
 use Rattle.casper_model.specs.Leave.{depart, departed_by, absent}
 use Rattle.casper_model.proofs.Places.{client_placed, client_unplaced, client_changed, client_unchanged}
@@ -20,21 +21,20 @@ use Rattle.casper_model.proofs.OpeningRights.{places_changed}
 use Rattle.casper_hub.specs.HubView.{HubView, ClientView, client_in, with_asks}
 use Rattle.casper_hub.specs.Shows.{permits, Shows, ShowsClient}
 use Rattle.casper_hub.specs.Owned.{own_of}
-use Rattle.casper_hub.specs.Stages.{Opens, Leaves, Refuses}
+use Rattle.casper_hub.specs.Stages.{Leaves, Refuses}
 use Rattle.casper_hub.specs.Turns.{IsTurn}
 use Rattle.casper_hub.proofs.Whole.{Whole, Owning, fallen_shown}
-use Rattle.casper_hub.proofs.OpenedTurns.{own_opened}
 use Rattle.casper_hub.proofs.ShownAfter.{shows_after}
-use Rattle.casper_hub.proofs.ServedTurns.{place_within, opened_shows}
+use Rattle.casper_hub.proofs.ServedTurns.{place_within}
+use Rattle.casper_hub.proofs.TurnOpened.{opening_turn, opening_places, opening_pending}
 
 -- the client of the machine's opening
-pub client_of_opening : (shared : Shared) (hub : HubView) (own : cache.Own) → Shows shared hub → Whole hub → Owning hub own → (opened shared (own_of own)).own.who ≡ own.client
-client_of_opening shared hub own shows sound owns = ap (λ (o : Own). o.who) (own_opened shared hub own shows sound owns)
-
--- the places of a hub after an opening
-pub places_of_opening : (who : ℕ) (hub : HubView) (own : cache.Own) (opened : HubView) (opened_own : cache.Own) → Opens who hub own opened opened_own
-    → length opened.clients ≡ length hub.clients
-places_of_opening who hub own opened opened_own opens = ap (λ (h : HubView). length h.clients) opens.hub_is ∙ length-set hub.clients who _
+pub client_of_opening : (shared : Shared) (own : Own) → (opened shared own).own.who ≡ own.who
+client_of_opening shared own = by (gathering_of (given_up (begun shared own)).shared (given_up (begun shared own)).own.who)
+  where
+    by : (gathering : Option Stabilisation) → (handed_in_to (given_up (begun shared own)) gathering).own.who ≡ own.who
+    by None = refl
+    by (Some gathering) = refl
 
 -- a client that becomes absent is shown as absent
 absent_shows : (shared : Shared) (hub : HubView) (own : cache.Own) (after : HubView) (own_after : cache.Own) → Shows shared hub → Whole hub → Owning hub own
@@ -49,8 +49,8 @@ absent_shows shared hub own after own_after shows sound owns leaves sound_opened
       limit_too = ap (λ (h : HubView). h.limit) leaves.hub_is;
       pages = refl;
       pages_too = leaves.gives.rights_count;
-      stabilisations = ap (map forget) none ∙ sym none;
-      stabilisations_too = ap (λ (h : HubView). h.stabilisations) leaves.hub_is;
+      stabilisations = ap (map forget) shows_opened.stabilisations ∙ ap (λ who. map (λ (one : Stabilisation). record one { askers = without who one.askers }) leaves.opened.stabilisations) who
+          ∙ sym (ap (λ (h : HubView). h.stabilisations) leaves.hub_is);
       places = length-set both.shared.clients both.own.who None;
       clients = λ other apart. client_unplaced both.own.who None both.shared other (λ is. apart (is ∙ who));
       clients_too = λ other apart. ap (λ (h : HubView). client_in h other) leaves.hub_is ∙ get_or-set_other leaves.opened.clients own.client other None None apart;
@@ -65,19 +65,16 @@ absent_shows shared hub own after own_after shows sound owns leaves sound_opened
     both = opened shared (own_of own)
 
     who : both.own.who ≡ own.client
-    who = client_of_opening shared hub own shows sound owns
+    who = client_of_opening shared (own_of own)
 
     forget : Stabilisation → Stabilisation
     forget one = record one { askers = without both.own.who one.askers }
 
     shows_opened : Shows both.shared leaves.opened
-    shows_opened = opened_shows shared hub own own.held leaves.opened leaves.opened_own shows sound owns leaves.opens
-
-    none : both.shared.stabilisations ≡ []
-    none = shows_opened.stabilisations ∙ sound_opened.quiet
+    shows_opened = (opening_turn hub own leaves.opened leaves.opened_own sound owns leaves.opens).shows shared shows
 
     within : own.client < length leaves.opened.clients
-    within = subst (λ count. own.client < count) (sym (places_of_opening own.client hub own leaves.opened leaves.opened_own leaves.opens)) (place_within hub own sound owns)
+    within = subst (λ count. own.client < count) (sym (opening_places hub own leaves.opened leaves.opened_own sound owns leaves.opens)) (place_within hub own sound owns)
 
     there : client_at (absent both).shared own.client ≡ None
     there =
@@ -96,7 +93,9 @@ absent_shows shared hub own after own_after shows sound owns leaves sound_opened
 own_after_leaving : (shared : Shared) (hub : HubView) (own : cache.Own) (after : HubView) (own_after : cache.Own) → Shows shared hub → Whole hub → Owning hub own
     → Leaves own.client hub own after own_after → own_of own_after ≡ (absent (opened shared (own_of own))).own
 own_after_leaving shared hub own after own_after shows sound owns leaves =
-    ap own_of leaves.own_is ∙ sym (ap (λ (o : Own). blank o.who o.capacity) (own_opened shared hub own shows sound owns))
+    ap own_of leaves.own_is
+    ∙ ap (λ (calls : List Call). record (own_of leaves.opened_own) { held = []; pending = calls; cap = 0 }) (opening_pending hub own leaves.opened leaves.opened_own sound owns leaves.opens)
+    ∙ ap (λ (o : Own). blank o.who o.capacity) ((opening_turn hub own leaves.opened leaves.opened_own sound owns leaves.opens).owns shared shows)
 
 -- a turn in which a client departs is the machine's
 departed_turn : (shared : Shared) (hub : HubView) (own : cache.Own) (after : HubView) (own_after : cache.Own) → Shows shared hub → Whole hub → Owning hub own
@@ -150,8 +149,7 @@ refused_shows shared hub own asks after own_after shows sound owns refuses sound
       limit_too = ap (λ (h : HubView). h.limit) refuses.hub_is;
       pages = refl;
       pages_too = ap (λ (h : HubView). length h.pages.rights) refuses.hub_is;
-      stabilisations = refl;
-      stabilisations_too = ap (λ (h : HubView). h.stabilisations) refuses.hub_is;
+      stabilisations = shows_opened.stabilisations ∙ sym (ap (λ (h : HubView). h.stabilisations) refuses.hub_is);
       places = places_changed both.own.who change both.shared;
       clients = λ other apart. client_unchanged both.own.who change both.shared other (λ is. apart (is ∙ who));
       clients_too = λ other apart. ap (λ (h : HubView). client_in h other) refuses.hub_is
@@ -165,16 +163,16 @@ refused_shows shared hub own asks after own_after shows sound owns refuses sound
     both = opened shared (own_of own)
 
     who : both.own.who ≡ own.client
-    who = client_of_opening shared hub own shows sound owns
+    who = client_of_opening shared (own_of own)
 
     change : Client → Client
     change client = record client { asks = asks }
 
     shows_opened : Shows both.shared refuses.opened
-    shows_opened = opened_shows shared hub own own.held refuses.opened own_after shows sound owns refuses.opens
+    shows_opened = (opening_turn hub own refuses.opened own_after sound owns refuses.opens).shows shared shows
 
     within : own.client < length refuses.opened.clients
-    within = subst (λ count. own.client < count) (sym (places_of_opening own.client hub own refuses.opened own_after refuses.opens)) (place_within hub own sound owns)
+    within = subst (λ count. own.client < count) (sym (opening_places hub own refuses.opened own_after sound owns refuses.opens)) (place_within hub own sound owns)
 
     there : client_at (acquiring.with_asks asks both).shared own.client ≡ option_map change (client_at both.shared own.client)
     there =

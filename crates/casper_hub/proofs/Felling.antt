@@ -59,44 +59,44 @@ among_members items lost who members same = ap (λ all. is_among 33 all who) sam
         ap₂ (λ a b. a && (b && has_member who (association_of items lost))) (lt-ltb 0 who (omega (arith, bounds.0))) (lt-ltb who 33 (omega (arith, bounds.1))) ∙ is
     by false is = among_out 33 (association_of items lost) who is
 
--- the places once the members with lesser numbers than this fell
-abbrev pub FellBelow : ℕ → (ℕ → FallenView) → List ℕ → List (Option ClientView) → List (Option ClientView) → Type 0
-FellBelow number fall members old now =
-    (who : ℕ) → place_in now who ≡ cond (is_among number members who) (felled (fall who) (place_in old who)) (place_in old who)
+-- the places once those of the members with lesser numbers than this changed
+abbrev pub ChangedBelow : ℕ → (ℕ → Option ClientView → Option ClientView) → List ℕ → List (Option ClientView) → List (Option ClientView) → Type 0
+ChangedBelow number change members old now =
+    (who : ℕ) → place_in now who ≡ cond (is_among number members who) (change who (place_in old who)) (place_in old who)
 
--- nobody fell yet
-pub fell_none : (fall : ℕ → FallenView) (members : List ℕ) (places : List (Option ClientView)) → FellBelow 1 fall members places places
-fell_none fall members places who = sym (ap (λ b. cond b (felled (fall who) (place_in places who)) (place_in places who)) (among_none members who))
+-- none changed yet
+pub changed_none : (change : ℕ → Option ClientView → Option ClientView) (members : List ℕ) (places : List (Option ClientView)) → ChangedBelow 1 change members places places
+changed_none change members places who = sym (ap (λ b. cond b (change who (place_in places who)) (place_in places who)) (among_none members who))
 
--- one more member falls
-pub fell_next : (fall : ℕ → FallenView) (members : List ℕ) (old now new : List (Option ClientView)) (number who : ℕ) → who ≡ number → 0 < number → number < length now
-    → FellBelow number fall members old now → has_member who members ≡ true → new ≡ slice_set now who (felled (fall who) (place_in now who))
-    → FellBelow (number + 1) fall members old new
-fell_next fall members old now new number who same least below fell member is q = ⊎_elim here there (cases_eq q number)
+-- one more changes
+pub changed_next : (change : ℕ → Option ClientView → Option ClientView) (members : List ℕ) (old now new : List (Option ClientView)) (number who : ℕ) → who ≡ number → 0 < number → number < length now
+    → ChangedBelow number change members old now → has_member who members ≡ true → new ≡ slice_set now who (change who (place_in now who))
+    → ChangedBelow (number + 1) change members old new
+changed_next change members old now new number who same least below changed member is q = ⊎_elim here there (cases_eq q number)
   where
-    here : q ≡ number → place_in new q ≡ cond (is_among (number + 1) members q) (felled (fall q) (place_in old q)) (place_in old q)
+    here : q ≡ number → place_in new q ≡ cond (is_among (number + 1) members q) (change q (place_in old q)) (place_in old q)
     here at =
         let now_is : place_in now number ≡ place_in old number =
-        fell number ∙ ap (λ b. cond b (felled (fall number) (place_in old number)) (place_in old number)) (among_not_yet members number) in
-        let new_is : new ≡ slice_set now number (felled (fall number) (place_in now number)) = is ∙ ap (λ n. slice_set now n (felled (fall n) (place_in now n))) same in
-        subst (λ n. place_in new n ≡ cond (is_among (number + 1) members n) (felled (fall n) (place_in old n)) (place_in old n)) (sym at)
+        changed number ∙ ap (λ b. cond b (change number (place_in old number)) (place_in old number)) (among_not_yet members number) in
+        let new_is : new ≡ slice_set now number (change number (place_in now number)) = is ∙ ap (λ n. slice_set now n (change n (place_in now n))) same in
+        subst (λ n. place_in new n ≡ cond (is_among (number + 1) members n) (change n (place_in old n)) (place_in old n)) (sym at)
         (ap (λ places. place_in places number) new_is
-        ∙ get_or-set_same now number (felled (fall number) (place_in now number)) None below
-        ∙ ap (felled (fall number)) now_is
-        ∙ sym (ap (λ b. cond b (felled (fall number) (place_in old number)) (place_in old number))
+        ∙ get_or-set_same now number (change number (place_in now number)) None below
+        ∙ ap (change number) now_is
+        ∙ sym (ap (λ b. cond b (change number (place_in old number)) (place_in old number))
         (among_here members number least (ap (λ n. has_member n members) (sym same) ∙ member))))
 
-    there : q ≢ number → place_in new q ≡ cond (is_among (number + 1) members q) (felled (fall q) (place_in old q)) (place_in old q)
+    there : q ≢ number → place_in new q ≡ cond (is_among (number + 1) members q) (change q (place_in old q)) (place_in old q)
     there apart =
         ap (λ places. place_in places q) is
-        ∙ get_or-set_other now who q (felled (fall who) (place_in now who)) None (λ at. apart (at ∙ same))
-        ∙ fell q ∙ ap (λ b. cond b (felled (fall q) (place_in old q)) (place_in old q)) (sym (among_next members q number apart))
+        ∙ get_or-set_other now who q (change who (place_in now who)) None (λ at. apart (at ∙ same))
+        ∙ changed q ∙ ap (λ b. cond b (change q (place_in old q)) (place_in old q)) (sym (among_next members q number apart))
 
 -- who is no member stays
-pub stays_next : (fall : ℕ → FallenView) (members : List ℕ) (old now : List (Option ClientView)) (number who : ℕ) → who ≡ number
-    → FellBelow number fall members old now → has_member who members ≡ false → FellBelow (number + 1) fall members old now
-stays_next fall members old now number who same fell out q =
-    fell q ∙ ap (λ b. cond b (felled (fall q) (place_in old q)) (place_in old q)) (⊎_elim here (λ apart. sym (among_next members q number apart)) (cases_eq q number))
+pub stays_next : (change : ℕ → Option ClientView → Option ClientView) (members : List ℕ) (old now : List (Option ClientView)) (number who : ℕ) → who ≡ number
+    → ChangedBelow number change members old now → has_member who members ≡ false → ChangedBelow (number + 1) change members old now
+stays_next change members old now number who same changed out q =
+    changed q ∙ ap (λ b. cond b (change q (place_in old q)) (place_in old q)) (⊎_elim here (λ apart. sym (among_next members q number apart)) (cases_eq q number))
   where
     here : q ≡ number → is_among number members q ≡ is_among (number + 1) members q
     here at =

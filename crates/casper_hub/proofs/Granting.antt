@@ -16,14 +16,14 @@ use Rattle.casper_hub.specs.HubView.{HubView, PagesView, ClientView, client_in, 
 use Rattle.casper_hub.specs.Words.{live_value, stored_value, seen_value, AreWords, ServerIsRight, HeldIsRight, FramesAreRight, CacheIsRight}
 use Rattle.casper_hub.specs.Installing.{with_pages, all_raised, all_fronted}
 use Rattle.casper_hub.specs.Stages.{CanGrant, Grants}
-use Rattle.casper_hub.specs.Sound.{IsWellFormed, IsPlain}
+use Rattle.casper_hub.specs.Sound.{IsWellFormed}
 use Rattle.casper_hub.proofs.Whole.{Whole, Owning}
 use Rattle.casper_hub.proofs.Left.{distinct-kept}
 use Rattle.casper_hub.proofs.Giving.{writes_before, held_right_kept}
 use Rattle.casper_hub.proofs.Relying.{same_held}
-use Rattle.casper_hub.proofs.Changing.{changed, changed_here, live_elsewhere, stored_stays, modified_elsewhere, formed_changed, plain_changed}
-use Rattle.casper_hub.proofs.Opened.{Begins, live_with_cap, plain_with_cap, fallen_with_cap, opened_up, seen_without_calls, same_server, opened_sound, opened_live, opened_frames, opened_words}
-use Rattle.casper_hub.proofs.Refused.{live_with_asks, plain_with_asks, fallen_with_asks, asks_in_range}
+use Rattle.casper_hub.proofs.Changing.{changed, changed_here, live_elsewhere, stored_stays, modified_elsewhere, formed_changed}
+use Rattle.casper_hub.proofs.Opened.{Begins, live_with_cap, fallen_with_cap, opened_up, seen_without_calls, same_server, opened_sound, opened_live, opened_frames, opened_words}
+use Rattle.casper_hub.proofs.Refused.{live_with_asks, fallen_with_asks, asks_in_range}
 use Rattle.casper_hub.proofs.Installed.{distinct_with_pages, missing_framed, begins_installed, words_installed}
 use Rattle.casper_hub.proofs.Raised.{distinct_raised, distinct_fronted, right_raised, right_fronted, granted_from, granted_writer}
 use Rattle.casper_hub.proofs.Touched.{touches_write_nothing}
@@ -102,13 +102,6 @@ module _ (hub : HubView) (own : cache.Own) (wants missing : List Want) (after : 
       (λ client page is differ. turn.grants.gives.others client page is differ ∙ turn.grants.granted_others client page is differ)
       (granted_framed hub own wants missing after own_after turn)
       (λ page is. turn.grants.gives.framed page (subst (λ (frames : List (Option (List ℕ))). IsSome (get_or frames page None)) (sym turn.grants.granted_frames) is)))
-
-  pub granted_plain : IsPlain after
-  granted_plain =
-      subst IsPlain (sym turn.grants.hub_is)
-      (plain_changed turn.grants.opened trail_granted own.client place_granted after.pages whole_before.plain whole_before.places turn.owns.client
-      (plain_with_asks [] (with_cap (turn.grants.opened_own.cap - length missing) (client_in turn.grants.opened own.client))
-      (plain_with_cap (turn.grants.opened_own.cap - length missing) (client_in turn.grants.opened own.client) (whole_before.unkept own.client))))
 
   same_client : own_after.client ≡ own.client
   same_client = ap (λ (o : cache.Own). o.client) turn.grants.own_is ∙ ap (λ (o : cache.Own). o.client) turn.grants.opens.own_is

@@ -13,7 +13,7 @@ use Rattle.casper_model.specs.Both.{Turned}
 use Rattle.casper_model.specs.Room.{most_cap}
 use Rattle.casper_model.specs.Join.{join, joined, joined_by}
 use Rattle.casper_model.proofs.Places.{client_placed, client_unplaced}
-use Rattle.casper_hub.specs.HubView.{HubView, ClientView, client_in, cap_in, cap_of, free_in, new_client_view}
+use Rattle.casper_hub.specs.HubView.{HubView, client_in, cap_in, cap_of, free_in, new_client_view}
 use Rattle.casper_hub.specs.Shows.{permits, Shows, ShowsClient}
 use Rattle.casper_hub.specs.Turns.{IsJoin}
 use Rattle.casper_model.specs.Held.{allows}
@@ -28,11 +28,11 @@ use Rattle.casper_hub.specs.GoesOn.{GoesOn, KeepsClient, CommitsNothing}
 use Rattle.casper_hub.specs.Owned.{own_of, Owns, new_cache}
 use Rattle.casper_hub.proofs.StandsFor.{stands_for, standing, goes_from, going, good_with_each}
 use Rattle.casper_hub.proofs.Transport.{good_too}
-use Rattle.casper_hub.specs.Sound.{IsWellFormed, IsSound, IsPlain}
+use Rattle.casper_hub.specs.Sound.{IsWellFormed, IsSound}
 use Rattle.casper_hub.proofs.Whole.{Whole, nobody_there, absent_shown, rights_of_absent}
 use Rattle.casper_hub.proofs.Showing.{free_shown, liveness_shown}
 use Rattle.casper_hub.proofs.ShownAfter.{shows_after}
-use Rattle.casper_hub.proofs.Changing.{changed, changed_here, formed_changed, plain_changed}
+use Rattle.casper_hub.proofs.Changing.{changed, changed_here, formed_changed}
 
 -- a hub once a client has joined with this cap
 abbrev pub with_client : HubView → ℕ → ℕ → HubView
@@ -104,11 +104,6 @@ joined_formed hub who cap formed client =
     formed_changed hub hub.trail who (Some (new_client_view cap)) hub.pages formed client (λ ask inside. absurd (omega (arith, inside.1)))
     refl refl formed.holders (λ other page is apart. refl) (λ page is. formed.framed who page is) (λ page is. is)
 
-pub joined_plain : (hub : HubView) (who cap : ℕ) → Whole hub → IsClient who → IsPlain (with_client hub who cap)
-joined_plain hub who cap sound client =
-    plain_changed hub hub.trail who (Some (new_client_view cap)) hub.pages sound.plain sound.places client
-    (λ one is. let same : new_client_view cap ≡ one = cc in subst (λ (v : ClientView). v.kept ≡ None) same refl)
-
 -- after a join the hub stands for the machine after it
 joined_shows : (shared : Shared) (hub : HubView) (who cap : ℕ) → Shows shared hub → Whole hub → IsClient who → is_some (client_in hub who) ≡ false
     → Shows (place_client who (Some (new_client cap)) shared) (with_client hub who cap)
@@ -122,8 +117,7 @@ joined_shows shared hub who cap shows sound client gone =
       limit_too = refl;
       pages = refl;
       pages_too = refl;
-      stabilisations = refl;
-      stabilisations_too = refl;
+      stabilisations = shows.stabilisations;
       places = length-set shared.clients who (Some (new_client cap));
       clients = λ other apart. client_unplaced who (Some (new_client cap)) shared other apart;
       clients_too = λ other apart. get_or-set_other hub.clients who other (Some (new_client_view cap)) None apart;

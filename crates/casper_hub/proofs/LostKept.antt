@@ -1,24 +1,25 @@
-use Rattle.std.proofs.Common.{◌≡◌, ◌≢◌, ℕ, []}
-use Rattle.std.specs.Prelude.{None, Some}
+use Rattle.std.proofs.Common.{◌≡◌, ◌≢◌, ℕ}
+use Rattle.std.specs.Prelude.{None}
 use Rattle.casper_words.specs.Crew.{IsClient}
 use Rattle.casper_cache.specs.Own as cache
+use Rattle.casper_model.specs.declared.reply.Loss.TheVariants.{Noted}
 use Rattle.casper_model.specs.Both.{Changed}
 use Rattle.casper_model.specs.Leave.{vanish}
 use Rattle.casper_model.specs.Loss.{lose}
 use Rattle.casper_model.specs.Shared.{Shared}
+use Rattle.casper_model.specs.Stabilisation.{Stabilisation}
 use Rattle.casper_turns.specs.CommitsNothing.{CommitsNothing as SharedCommitsNothing}
 use Rattle.casper_turns.specs.Good.{IsGoodShared}
 use Rattle.casper_turns.specs.KeepsClient.{KeepsClient as SharedKeepsClient}
 use Rattle.casper_turns.specs.Kept.{KeptByTurn, KeptForAll}
 use Rattle.casper_turns.proofs.Losses.{lose_kept, lose_still, vanish_kept}
 use Rattle.casper_hub.specs.GoesOn.{KeepsClient, CommitsNothing}
-use Rattle.casper_hub.specs.HubView.{HubView, FallenView, fallen_in}
+use Rattle.casper_hub.specs.HubView.{HubView, fallen_in}
 use Rattle.casper_hub.specs.Owned.{own_of, Owns}
-use Rattle.casper_hub.specs.RollingBack.{RollsBack, without_client}
 use Rattle.casper_hub.specs.Shows.{Shows}
 use Rattle.casper_hub.specs.Sound.{IsSound, Stands}
-use Rattle.casper_hub.proofs.LostTurns.{lost_now, fallen_vanishes, lost_vanishes, formed_absent}
-use Rattle.casper_hub.proofs.RolledBack.{formed_rolled_back}
+use Rattle.casper_hub.proofs.Absent.{formed_with}
+use Rattle.casper_hub.proofs.LostTurns.{IsHeldIn, with_stabilisations, noted_in, noted_now, lost_so}
 use Rattle.casper_hub.proofs.StandsFor.{stands_for, standing, going, good_with}
 use Rattle.casper_hub.proofs.Transport.{stands_behind, keeps_others, keeps_still}
 
@@ -45,26 +46,28 @@ module _ {R : Type 0} (change : Shared → Changed R) (hub after : HubView)
       going SharedCommitsNothing hub after
       (λ shared is good. record { next = (change shared).shared; shows = shows shared is; good = (keeps shared good).good; comes = still shared good })
 
--- a client that is not fallen is lost
-module _ (who : ℕ) (hub after : HubView) (sound : IsSound hub) (quiet : hub.stabilisations ≡ []) (is : IsClient who) (up : fallen_in hub who ≡ None)
-    (rolls : RollsBack who hub after) where
-  loss_shows : (shared : Shared) → Shows shared hub → Shows (lose shared who).shared after
-  loss_shows = (lost_now who hub after sound quiet up rolls).shows
-
+-- a client is lost
+module _ (who : ℕ) (hub after : HubView) (is : IsClient who) (shows : (shared : Shared) → Shows shared hub → Shows (lose shared who).shared after) where
   loss_keeps : (shared : Shared) → IsGoodShared shared → KeptForAll shared (lose shared who).shared
   loss_keeps shared good = lose_kept shared who good is
 
-  pub lost_sound : IsSound after
-  lost_sound = record {
-    formed = formed_rolled_back who hub after rolls sound;
-    stands = stands_changed (λ shared. lose shared who) hub after loss_shows loss_keeps sound.stands;
-  }
+  pub lost_stands : Stands hub → Stands after
+  lost_stands = stands_changed (λ shared. lose shared who) hub after shows loss_keeps
 
   pub lost_keeps : (other : ℕ) → KeepsClient other hub after
-  lost_keeps = keeps_all (λ shared. lose shared who) hub after loss_shows loss_keeps
+  lost_keeps = keeps_all (λ shared. lose shared who) hub after shows loss_keeps
 
   pub lost_commits_nothing : CommitsNothing hub after
-  lost_commits_nothing = keeps_uncommitted (λ shared. lose shared who) hub after loss_shows loss_keeps (λ shared good. lose_still shared who good is)
+  lost_commits_nothing = keeps_uncommitted (λ shared. lose shared who) hub after shows loss_keeps (λ shared good. lose_still shared who good is)
+
+-- the loss of a client that has not fallen is noted
+pub noted_sound : (who : ℕ) (hub : HubView) (one : Stabilisation) → IsSound hub → IsClient who → fallen_in hub who ≡ None → IsHeldIn hub who one
+    → IsSound (with_stabilisations (noted_in who one hub.stabilisations) hub)
+noted_sound who hub one sound is up held =
+    let after : HubView = with_stabilisations (noted_in who one hub.stabilisations) hub in record {
+      formed = formed_with hub (noted_in who one hub.stabilisations) sound.formed;
+      stands = lost_stands who hub after is (lost_so who hub after (Noted one.lead 0) up (noted_now who 0 hub one held)).shows sound.stands;
+    }
 
 -- a client vanishes
 module _ (hub : HubView) (own : cache.Own) (after : HubView) (owns : Owns hub own)
@@ -80,20 +83,3 @@ module _ (hub : HubView) (own : cache.Own) (after : HubView) (owns : Owns hub ow
 
   pub vanished_still : CommitsNothing hub after
   vanished_still = keeps_still vanish hub own after shows vanish_keeps
-
--- where it had fallen the hub without it is sound
-pub fallen_vanished_sound : (hub : HubView) (own : cache.Own) (fallen : FallenView) → IsSound hub → hub.stabilisations ≡ [] → IsClient own.client → Owns hub own
-    → fallen_in hub own.client ≡ Some fallen → IsSound (without_client own.client hub)
-fallen_vanished_sound hub own fallen sound quiet is owns fell = record {
-  formed = formed_absent own.client hub is sound.formed;
-  stands = vanished_stands hub own (without_client own.client hub) owns (fallen_vanishes hub own fallen sound quiet is fell).shows sound.stands;
-}
-
--- and else so is the rolled back hub without it
-pub lost_vanished_sound : (hub middle : HubView) (own : cache.Own) → IsSound hub → hub.stabilisations ≡ [] → IsClient own.client → Owns hub own
-    → fallen_in hub own.client ≡ None → RollsBack own.client hub middle → IsSound (without_client own.client middle)
-lost_vanished_sound hub middle own sound quiet is owns up rolls = record {
-  formed = formed_absent own.client middle is (formed_rolled_back own.client hub middle rolls sound);
-  stands = vanished_stands hub own (without_client own.client middle) owns
-      (lost_vanishes hub middle own sound quiet is up rolls).shows sound.stands;
-}

@@ -9,10 +9,11 @@ use Rattle.casper_model.specs.Client.{Client}
 use Rattle.casper_model.specs.Held.{allows}
 use Rattle.casper_model.specs.Shared.{new_shared, of_client}
 use Rattle.casper_turns.proofs.Start.{start_good}
+use Rattle.casper_model.specs.Stabilisation.{Stabilisation}
 use Rattle.casper_hub.specs.HubView.{ClientView, PagesView, place_in, asks_of, frame_in}
 use Rattle.casper_hub.specs.HubFields.{hub_of}
 use Rattle.casper_hub.specs.Shows.{permits, Shows, ShowsClient}
-use Rattle.casper_hub.specs.Sound.{IsSound, IsPlain}
+use Rattle.casper_hub.specs.Sound.{IsSound}
 use Rattle.casper_hub.proofs.StandsFor.{stands_for, standing}
 use Rattle.casper_hub.proofs.Supplied.{shows_beside_frames}
 
@@ -28,16 +29,16 @@ absent_at {X} count who =
 pub nobody_live : (places : List (Option ClientView)) → places ≡ replicate 33 None → (who : ℕ) → place_in places who ≡ None
 nobody_live places are who = ap (λ (l : List (Option ClientView)). place_in l who) are ∙ absent_at 33 who
 
-module _ (count limit : ℕ) (trail : List Item) (places : List (Option ClientView)) (pages : PagesView) (empty : trail ≡ []) (are : places ≡ replicate 33 None)
+module _ (count limit : ℕ) (stabilisations : List Stabilisation) (none : stabilisations ≡ []) (trail : List Item) (places : List (Option ClientView)) (pages : PagesView) (empty : trail ≡ []) (are : places ≡ replicate 33 None)
     (long : length pages.rights ≡ count) (free : (client page : ℕ) → right_at pages.rights client page ≡ None) where
   -- the hub of a session that begins stands for the machine as a session begins
-  pub shows_new : Shows (new_shared count limit) (hub_of trail limit places pages)
+  pub shows_new : Shows (new_shared count limit) (hub_of trail limit stabilisations places pages)
   shows_new = record {
     trail = sym empty;
     limit = refl;
     pages = sym long;
     places = length-replicate {A = Option Client} 33 None;
-    stabilisations = refl;
+    stabilisations = sym none;
     clients = λ who.
         subst (λ (place : Option Client). ShowsClient trail place (place_in places who)) (sym (absent_at 33 who))
         (subst (λ (shown : Option ClientView). ShowsClient trail None shown) (sym (nobody_live places are who)) tt);
@@ -47,7 +48,7 @@ module _ (count limit : ℕ) (trail : List Item) (places : List (Option ClientVi
   }
 
   -- and is sound
-  pub sound_new : AreAllClients pages.rights → pages.frames ≡ replicate count None → count < 2 ^ 32 → limit < 2 ^ 32 → IsSound (hub_of trail limit places pages)
+  pub sound_new : AreAllClients pages.rights → pages.frames ≡ replicate count None → count < 2 ^ 32 → limit < 2 ^ 32 → IsSound (hub_of trail limit stabilisations places pages)
   sound_new holders frames short fits = record {
     formed = record {
       places = ap length are ∙ length-replicate {A = Option ClientView} 33 None;
@@ -61,11 +62,8 @@ module _ (count limit : ℕ) (trail : List Item) (places : List (Option ClientVi
           let among : Contains [] ask = subst (λ (l : List Want). Contains l ask) none inside in
           absurd (omega (arith, among.1));
     };
-    stands = standing (hub_of trail limit places pages) (record { shared = new_shared count limit; shows = shows_new; good = start_good count limit });
+    stands = standing (hub_of trail limit stabilisations places pages) (record { shared = new_shared count limit; shows = shows_new; good = start_good count limit });
   }
-
-  pub plain_new : IsPlain (hub_of trail limit places pages)
-  plain_new = record { quiet = refl; unkept = λ who client is. absurd (true≢false (ap is_some (sym is ∙ nobody_live places are who))) }
 
 -- a frame that the server has stays as another is supplied
 frame_stays : (frames : List (Option (List ℕ))) (page : ℕ) (frame : List ℕ) (other : ℕ) → IsSome (get_or frames other None)
@@ -82,9 +80,9 @@ frames_supplied frames page frame =
     cond_both (is_some (get_or frames page None)) frames (set frames page (Some frame)) (λ (l : List (Option (List ℕ))). length l ≡ length frames) (λ _. refl) (λ _. length-set frames page (Some frame))
 
 -- a hub stays sound as a frame is supplied
-pub sound_supplied : (trail : List Item) (limit : ℕ) (places : List (Option ClientView)) (pages after : PagesView) (page : ℕ) (frame : List ℕ) → IsSound (hub_of trail limit places pages)
-    → after.rights ≡ pages.rights → after.frames ≡ cond (is_some (frame_in pages page)) pages.frames (set pages.frames page (Some frame)) → IsSound (hub_of trail limit places after)
-sound_supplied trail limit places pages after page frame sound rights frames = record {
+pub sound_supplied : (trail : List Item) (limit : ℕ) (stabilisations : List Stabilisation) (places : List (Option ClientView)) (pages after : PagesView) (page : ℕ) (frame : List ℕ) → IsSound (hub_of trail limit stabilisations places pages)
+    → after.rights ≡ pages.rights → after.frames ≡ cond (is_some (frame_in pages page)) pages.frames (set pages.frames page (Some frame)) → IsSound (hub_of trail limit stabilisations places after)
+sound_supplied trail limit stabilisations places pages after page frame sound rights frames = record {
   formed = record {
     places = sound.formed.places;
     holders = subst AreAllClients (sym rights) sound.formed.holders;
@@ -96,10 +94,10 @@ sound_supplied trail limit places pages after page frame sound rights frames = r
         (frame_stays pages.frames page frame other (sound.formed.framed who other (ap (λ r. right_at r who other) (sym rights) ∙ is)));
     asked = λ who ask inside. subst (λ n. ask.page < n) (sym (ap length rights)) (sound.formed.asked who ask inside);
   };
-  stands = standing (hub_of trail limit places after) (record {
-    shared = (stands_for (hub_of trail limit places pages) sound.stands).shared;
-    shows = shows_beside_frames (stands_for (hub_of trail limit places pages) sound.stands).shared (hub_of trail limit places pages) (hub_of trail limit places after) (stands_for (hub_of trail limit places pages) sound.stands).shows
-        (ap (λ r. hub_of trail limit places (record { rights = r; frames = after.frames })) rights);
-    good = (stands_for (hub_of trail limit places pages) sound.stands).good;
+  stands = standing (hub_of trail limit stabilisations places after) (record {
+    shared = (stands_for (hub_of trail limit stabilisations places pages) sound.stands).shared;
+    shows = shows_beside_frames (stands_for (hub_of trail limit stabilisations places pages) sound.stands).shared (hub_of trail limit stabilisations places pages) (hub_of trail limit stabilisations places after) (stands_for (hub_of trail limit stabilisations places pages) sound.stands).shows
+        (ap (λ r. hub_of trail limit stabilisations places (record { rights = r; frames = after.frames })) rights);
+    good = (stands_for (hub_of trail limit stabilisations places pages) sound.stands).good;
   });
 }

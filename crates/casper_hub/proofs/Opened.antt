@@ -24,19 +24,19 @@ use Rattle.casper_cache.proofs.Entries.{entry_of-page}
 use Rattle.casper_model.specs.LegalHistory.{right_for}
 use Rattle.casper_model.proofs.Entries.{contains_entry}
 use Rattle.casper_turns.proofs.Lists.{none_passes}
-use Rattle.casper_hub.specs.HubView.{HubView, ClientView, PagesView, client_in, cap_in, cap_of, asks_of, fallen_in, is_live, free_in, with_cap, frame_in, items_behind}
+use Rattle.casper_hub.specs.HubView.{HubView, ClientView, PagesView, client_in, cap_in, cap_of, asks_of, fallen_in, is_live, free_in, with_cap, begun_with, frame_in, items_behind}
 use Rattle.casper_hub.specs.Words.{live_value, stored_value, seen_value, AreWords, HasNoOpenWriter, ServerIsRight, HeldIsRight, FramesAreRight, CacheIsRight}
 use Rattle.casper_hub.specs.Shows.{permits}
 use Rattle.casper_hub.specs.Given.{Covers, GivesUp, Falls, left_of, kept_as, topped}
 use Rattle.casper_hub.specs.Stages.{Opens}
-use Rattle.casper_hub.specs.Sound.{IsWellFormed, IsPlain}
+use Rattle.casper_hub.specs.Sound.{IsWellFormed}
 use Rattle.casper_hub.proofs.Whole.{Whole, Owning}
-use Rattle.casper_hub.proofs.ServedTurns.{opened_whole}
+use Rattle.casper_hub.proofs.ServedTurns.{met_whole}
 use Rattle.casper_hub.proofs.Showing.{allows_right}
 use Rattle.casper_hub.proofs.Left.{entry_of-kept, distinct-kept}
 use Rattle.casper_hub.proofs.Giving.{writes_before, held_right_kept}
 use Rattle.casper_hub.proofs.Relying.{seen_plain, same_held, same_words}
-use Rattle.casper_hub.proofs.Changing.{IsPlainPlace, live_elsewhere, stored_stays, modified_more, formed_changed, plain_changed}
+use Rattle.casper_hub.proofs.Changing.{live_elsewhere, stored_stays, modified_more, formed_changed}
 
 -- each of these calls that writes is on a page that its client may write
 abbrev pub WritesAreHeld : ℕ → PagesView → List Call → Type 0
@@ -96,28 +96,32 @@ begins_owned hub own sound owns = record {
 }
 
 -- a live client with another cap
-pub cap_of_with : (cap : ℕ) (place : Option ClientView) → is_some place ≡ true → cap_of (with_cap cap place) ≡ cap
-cap_of_with cap None live = absurd (true≢false (sym live))
-cap_of_with cap (Some client) live = refl
-
 pub live_with_cap : (cap : ℕ) (place : Option ClientView) → is_some (with_cap cap place) ≡ is_some place
 live_with_cap cap None = refl
 live_with_cap cap (Some client) = refl
-
-pub asks_with_cap : (cap : ℕ) (place : Option ClientView) → asks_of (with_cap cap place) ≡ asks_of place
-asks_with_cap cap None = refl
-asks_with_cap cap (Some client) = refl
-
-pub plain_with_cap : (cap : ℕ) (place : Option ClientView) → IsPlainPlace place → IsPlainPlace (with_cap cap place)
-plain_with_cap cap None plain client e = cc
-plain_with_cap cap (Some shown) plain client e =
-    let same : record shown { cap = cap } ≡ client = cc in
-    subst (λ (c : ClientView). c.kept ≡ None) same (plain shown refl)
 
 pub fallen_with_cap : (cap : ℕ) (place : Option ClientView)
     → option_and_then (λ (client : ClientView). client.fallen) (with_cap cap place) ≡ option_and_then (λ (client : ClientView). client.fallen) place
 fallen_with_cap cap None = refl
 fallen_with_cap cap (Some client) = refl
+
+-- one whose turn begins
+pub cap_of_begun : (cap : ℕ) (place : Option ClientView) → is_some place ≡ true → cap_of (begun_with cap place) ≡ cap
+cap_of_begun cap None live = absurd (true≢false (sym live))
+cap_of_begun cap (Some client) live = refl
+
+pub live_begun : (cap : ℕ) (place : Option ClientView) → is_some (begun_with cap place) ≡ is_some place
+live_begun cap None = refl
+live_begun cap (Some client) = refl
+
+pub asks_of_begun : (cap : ℕ) (place : Option ClientView) → asks_of (begun_with cap place) ≡ asks_of place
+asks_of_begun cap None = refl
+asks_of_begun cap (Some client) = refl
+
+pub fallen_begun : (cap : ℕ) (place : Option ClientView)
+    → option_and_then (λ (client : ClientView). client.fallen) (begun_with cap place) ≡ option_and_then (λ (client : ClientView). client.fallen) place
+fallen_begun cap None = refl
+fallen_begun cap (Some client) = refl
 
 -- what a client keeps for writing is framed
 pub framed_left : (who : ℕ) (hub : HubView) (held held_after : List Held) (after : PagesView) → Whole hub → GivesUp who hub.pages held after held_after
@@ -125,31 +129,24 @@ pub framed_left : (who : ℕ) (hub : HubView) (held held_after : List Held) (aft
 framed_left who hub held held_after after sound gives page is =
     gives.framed page (sound.framed who page (writes_before (right_at hub.pages.rights who page) (right_at after.rights who page) (gives.falls page) is))
 
--- once a turn has opened the parts of the hub fit together, no outcome is kept, and its client has not fallen
+-- once a turn has opened the parts of the hub fit together
 module _ (who : ℕ) (hub : HubView) (own : cache.Own) (after : HubView) (own_after : cache.Own) (begins : Begins who hub own) (opens : Opens who hub own after own_after) where
   abbrev opened_place : Option ClientView
-  opened_place = with_cap (topped own (free_in hub)) (client_in hub who)
+  opened_place = begun_with (topped own (free_in hub)) (client_in hub who)
 
   pub opened_formed : IsWellFormed after
   opened_formed =
       subst IsWellFormed (sym opens.hub_is)
       (formed_changed hub (hub.trail ++ as_items (entries_by who own.pending)) who opened_place after.pages begins.sound.sound.formed begins.covers.client
-      (λ ask inside. begins.sound.asked who ask (subst (λ (asks : List Want). Contains asks ask) (asks_with_cap (topped own (free_in hub)) (client_in hub who)) inside))
+      (λ ask inside. begins.sound.asked who ask (subst (λ (asks : List Want). Contains asks ask) (asks_of_begun (topped own (free_in hub)) (client_in hub who)) inside))
       opens.gives.rights_count opens.gives.frames_count opens.gives.holders opens.gives.others
       (framed_left who hub own.held own_after.held after.pages begins.sound opens.gives) opens.gives.framed)
-
-  pub opened_plain : IsPlain after
-  opened_plain =
-      subst IsPlain (sym opens.hub_is)
-      (plain_changed hub (hub.trail ++ as_items (entries_by who own.pending)) who opened_place after.pages begins.sound.plain begins.sound.places begins.covers.client
-      (plain_with_cap (topped own (free_in hub)) (client_in hub who) (begins.sound.unkept who)))
 
 -- so the hub is sound
 pub opened_sound : (hub : HubView) (own : cache.Own) (held : List Held) (after : HubView) (own_after : cache.Own) → Begins own.client hub (record own { held = held })
     → Owning hub own → Opens own.client hub (record own { held = held }) after own_after → Whole after
 opened_sound hub own held after own_after begins owns opens =
-    opened_whole hub own held after own_after begins.sound owns opens
-    (opened_formed own.client hub (record own { held = held }) after own_after begins opens) (opened_plain own.client hub (record own { held = held }) after own_after begins opens)
+    met_whole hub own held after own_after begins.sound owns opens (opened_formed own.client hub (record own { held = held }) after own_after begins opens)
 
 -- the pending writes are on no page that their client may not write
 pub unwritten : (who : ℕ) (pages : PagesView) (calls : List Call) (page : ℕ) → WritesAreHeld who pages calls → right_at pages.rights who page ≢ Some may.Write
@@ -196,13 +193,13 @@ seen_without_calls base hub own up none page word =
 
 -- what the server knows of the client once its turn has opened
 pub opened_client : (who : ℕ) (hub : HubView) (own : cache.Own) (after : HubView) (own_after : cache.Own) → Begins who hub own → Opens who hub own after own_after
-    → client_in after who ≡ with_cap (topped own (free_in hub)) (client_in hub who)
+    → client_in after who ≡ begun_with (topped own (free_in hub)) (client_in hub who)
 opened_client who hub own after own_after begins opens =
     let most = begins.covers.client.1 in
     let long = begins.sound.places in
     let below : who < length hub.clients = omega arith in
     ap (λ (h : HubView). client_in h who) opens.hub_is
-    ∙ get_or-set_same hub.clients who (with_cap (topped own (free_in hub)) (client_in hub who)) None below
+    ∙ get_or-set_same hub.clients who (begun_with (topped own (free_in hub)) (client_in hub who)) None below
 
 -- and that it has not fallen
 pub opened_up : (who : ℕ) (hub : HubView) (own : cache.Own) (after : HubView) (own_after : cache.Own) → Begins who hub own → Opens who hub own after own_after
@@ -210,7 +207,7 @@ pub opened_up : (who : ℕ) (hub : HubView) (own : cache.Own) (after : HubView) 
 opened_up who hub own after own_after begins opens =
     ap (fallen_in after) (ap (λ (o : cache.Own). o.client) opens.own_is ∙ begins.client)
     ∙ ap (option_and_then (λ (client : ClientView). client.fallen)) (opened_client who hub own after own_after begins opens)
-    ∙ fallen_with_cap (topped own (free_in hub)) (client_in hub who) ∙ ap (fallen_in hub) (sym begins.client) ∙ begins.up
+    ∙ fallen_begun (topped own (free_in hub)) (client_in hub who) ∙ ap (fallen_in hub) (sym begins.client) ∙ begins.up
 
 pub opened_frames : (base : List (List ℕ)) (who : ℕ) (hub : HubView) (own : cache.Own) (after : HubView) (own_after : cache.Own) → Begins who hub own → Opens who hub own after own_after
     → FramesAreRight base hub → CacheIsRight base hub own → FramesAreRight base after
@@ -251,7 +248,7 @@ opened_words base who hub own after own_after begins opens words =
 -- and it is live with the cap of its cache
 pub opened_live : (who : ℕ) (hub : HubView) (own : cache.Own) (after : HubView) (own_after : cache.Own) → Begins who hub own → Opens who hub own after own_after → is_live after who ≡ true
 opened_live who hub own after own_after begins opens =
-    ap is_some (opened_client who hub own after own_after begins opens) ∙ live_with_cap (topped own (free_in hub)) (client_in hub who) ∙ begins.live
+    ap is_some (opened_client who hub own after own_after begins opens) ∙ live_begun (topped own (free_in hub)) (client_in hub who) ∙ begins.live
 
 pub opened_live_own : (hub : HubView) (own : cache.Own) (after : HubView) (own_after : cache.Own) → Begins own.client hub own → Opens own.client hub own after own_after
     → is_live after own_after.client ≡ true
@@ -261,7 +258,7 @@ opened_live_own hub own after own_after begins opens =
 pub opened_cap : (who : ℕ) (hub : HubView) (own : cache.Own) (after : HubView) (own_after : cache.Own) → Begins who hub own → Opens who hub own after own_after
     → cap_in after who ≡ own_after.cap
 opened_cap who hub own after own_after begins opens =
-    ap cap_of (opened_client who hub own after own_after begins opens) ∙ cap_of_with (topped own (free_in hub)) (client_in hub who) begins.live
+    ap cap_of (opened_client who hub own after own_after begins opens) ∙ cap_of_begun (topped own (free_in hub)) (client_in hub who) begins.live
     ∙ sym (ap (λ (o : cache.Own). o.cap) opens.own_is)
 
 -- the rights that are left are those of the pages that are left

@@ -1,4 +1,4 @@
-use Rattle.std.proofs.Common.{◌≡◌, ◌≤◌, ℕ, ◌+◌, ◌-◌, List, [], ◌∷◌, Bool, length, min, refl, sym, ap, ap₂, ◌∙◌, subst, ⊎_elim, arith}
+use Rattle.std.proofs.Common.{◌≡◌, ◌≢◌, ◌≤◌, ℕ, ◌+◌, ◌-◌, List, [], ◌∷◌, Bool, length, min, refl, sym, ap, ap₂, ◌∙◌, subst, ⊎_elim, arith}
 use Rattle.std.specs.Prelude.{Option, None, Some, option_map, option_and_then, filter_map}
 use Rattle.std.specs.List.{cons_option}
 use Rattle.std.proofs.lemmas.Bool.{cases_eq}
@@ -15,7 +15,8 @@ use Rattle.casper_model.specs.Shared.{Shared, client_at, asks_at, change_client,
 use Rattle.casper_model.specs.Own.{Own}
 use Rattle.casper_model.specs.Both.{Both}
 use Rattle.casper_model.specs.Room.{most_cap, all_caps}
-use Rattle.casper_model.specs.Opening.{kept_dropped, recorded, begun, given_up, opened, kept_of, any_right}
+use Rattle.casper_model.specs.Opening.{kept_dropped, recorded, begun, given_up, kept_of, any_right}
+use Rattle.casper_model.proofs.OpeningRights.{places_changed}
 use Rattle.casper_model.proofs.Places.{client_changed, client_unchanged}
 use Rattle.casper_hub.specs.HubView.{HubView, right_in, free_in}
 use Rattle.casper_hub.specs.Asks.{is_asked_for}
@@ -24,7 +25,7 @@ use Rattle.casper_hub.specs.Owned.{wants_of, own_of}
 use Rattle.casper_hub.specs.Given.{met, right_kept, left_of, kept_as, topped}
 use Rattle.casper_hub.proofs.Whole.{Whole, Owning, fallen_shown, pending_within}
 use Rattle.casper_hub.proofs.Showing.{asks_shown, free_shown, caps_shown}
-use Rattle.casper_hub.proofs.Standing.{stands, opened_plain, free_recorded}
+use Rattle.casper_hub.proofs.Standing.{stands, free_recorded}
 use Rattle.casper_hub.proofs.KeptPages.{asked_same, HaveRights, have_rights, keeps_wants}
 use Rattle.casper_hub.proofs.Left.{entry_of-kept, distinct-kept}
 
@@ -110,12 +111,11 @@ asks_begun shared own other =
         of_asks (Some a) None e = cc
         of_asks (Some a) (Some b) e = cc
 
--- the acting client's own part after the machine's opening
-pub own_opened : (shared : Shared) (hub : HubView) (own : cache.Own) → Shows shared hub → Whole hub → Owning hub own
-    → (opened shared (own_of own)).own ≡ record (own_of own) { cap = topped own (free_in hub); held = wants_of (kept_held hub own); pending = [] }
-own_opened shared hub own shows sound owns =
-    ap (λ (both : Both). both.own) (opened_plain shared (own_of own) (shows.stabilisations ∙ sound.quiet))
-    ∙ ap₂ (λ cap held. record (own_of own) { cap = cap; held = held; pending = [] }) cap held
+-- the acting client's own part once the machine's turn has met the asks
+pub own_met : (shared : Shared) (hub : HubView) (own : cache.Own) → Shows shared hub → Whole hub → Owning hub own
+    → (given_up (begun shared (own_of own))).own ≡ record (own_of own) { cap = topped own (free_in hub); held = wants_of (kept_held hub own); pending = [] }
+own_met shared hub own shows sound owns =
+    ap₂ (λ cap held. record (own_of own) { cap = cap; held = held; pending = [] }) cap held
   where
     cap : (begun shared (own_of own)).own.cap ≡ topped own (free_in hub)
     cap =
@@ -135,23 +135,58 @@ own_opened shared hub own shows sound owns =
             asked_same test (begun shared (own_of own)).shared hub.clients own.client page
             (λ other. asks_begun shared (own_of own) other ∙ asks_shown shared hub shows other)
 
--- what is known to all of the acting client after it
-pub client_opened : (shared : Shared) (own : Own) (client : Client) → shared.stabilisations ≡ [] → client_at shared own.who ≡ Some client
-    → client_at (opened shared own).shared own.who ≡ Some (record client { cap = (opened shared own).own.cap; rights = (opened shared own).own.held; kept = None })
-client_opened shared own client none live =
-    ap (λ (both : Both). client_at both.shared own.who) plain
-    ∙ (client_changed own.who (λ one. record one { cap = third.own.cap; rights = third.own.held }) second.shared
+-- what is known to all of the acting client then
+pub client_met : (shared : Shared) (own : Own) (client : Client) → client_at shared own.who ≡ Some client
+    → client_at (given_up (begun shared own)).shared own.who
+    ≡ Some (record client { cap = (given_up (begun shared own)).own.cap; rights = (given_up (begun shared own)).own.held; kept = None })
+client_met shared own client live =
+    client_changed own.who (λ one. record one { cap = third.own.cap; rights = third.own.held }) second.shared
     ∙ ap (option_map (λ (one : Client). record one { cap = third.own.cap; rights = third.own.held }))
     (client_changed own.who (λ one. record one { cap = second.own.cap; rights = second.own.held }) first.shared
     ∙ ap (option_map (λ (one : Client). record one { cap = second.own.cap; rights = second.own.held }))
     (client_changed own.who (λ one. record one { cap = first.own.cap; rights = first.own.held }) (record dropped { trail = first.shared.trail })
     ∙ ap (option_map (λ (one : Client). record one { cap = first.own.cap; rights = first.own.held }))
-    (client_changed own.who (λ one. record one { kept = None }) shared ∙ ap (option_map (λ (one : Client). record one { kept = None })) live))))
-    ∙ ap (λ (both : Both). Some (record client { cap = both.own.cap; rights = both.own.held; kept = None })) (sym plain)
+    (client_changed own.who (λ one. record one { kept = None }) shared ∙ ap (option_map (λ (one : Client). record one { kept = None })) live)))
   where
-    plain : opened shared own ≡ given_up (begun shared own)
-    plain = opened_plain shared own none
+    dropped : Shared
+    dropped = kept_dropped own.who shared
 
+    first : Both
+    first = recorded dropped own
+
+    second : Both
+    second = begun shared own
+
+    third : Both
+    third = given_up second
+
+-- and of the others
+pub others_met : (shared : Shared) (own : Own) (number : ℕ) → number ≢ own.who → client_at (given_up (begun shared own)).shared number ≡ client_at shared number
+others_met shared own number apart =
+    client_unchanged own.who (λ one. record one { cap = third.own.cap; rights = third.own.held }) second.shared number apart
+    ∙ client_unchanged own.who (λ one. record one { cap = second.own.cap; rights = second.own.held }) first.shared number apart
+    ∙ client_unchanged own.who (λ one. record one { cap = first.own.cap; rights = first.own.held }) (record dropped { trail = first.shared.trail }) number apart
+    ∙ client_unchanged own.who (λ one. record one { kept = None }) shared number apart
+  where
+    dropped : Shared
+    dropped = kept_dropped own.who shared
+
+    first : Both
+    first = recorded dropped own
+
+    second : Both
+    second = begun shared own
+
+    third : Both
+    third = given_up second
+
+pub places_met : (shared : Shared) (own : Own) → length (given_up (begun shared own)).shared.clients ≡ length shared.clients
+places_met shared own =
+    places_changed own.who (λ one. record one { cap = third.own.cap; rights = third.own.held }) second.shared
+    ∙ places_changed own.who (λ one. record one { cap = second.own.cap; rights = second.own.held }) first.shared
+    ∙ places_changed own.who (λ one. record one { cap = first.own.cap; rights = first.own.held }) (record dropped { trail = first.shared.trail })
+    ∙ places_changed own.who (λ one. record one { kept = None }) shared
+  where
     dropped : Shared
     dropped = kept_dropped own.who shared
 

@@ -22,12 +22,13 @@ use Rattle.casper_hub.specs.HubFields.{hub_of}
 use Rattle.casper_hub.specs.Shows.{permits}
 use Rattle.casper_hub.specs.Asks.{asks_for, is_asked_for}
 use Rattle.casper_model.specs.Held.{is_to_write}
+use Rattle.casper_model.specs.Stabilisation.{Stabilisation}
 use Rattle.casper_hub.specs.Given.{Covers, right_kept, kept_as, left_of}
 use Rattle.casper_hub.specs.Deciding.{is_missing, is_given, stands_in_the_way}
 use Rattle.casper_hub.specs.Installing.{with_page, with_pages, raised_for, all_raised, all_granted, all_fronted}
 use Rattle.casper_hub.specs.Stages.{Opens, CanGrant}
 use Rattle.casper_hub.specs.Owned.{Owns}
-use Rattle.casper_hub.specs.Sound.{IsSound, IsPlain}
+use Rattle.casper_hub.specs.Sound.{IsSound}
 use Rattle.casper_hub.proofs.Whole.{Whole, Owning, whole, owning}
 use Rattle.casper_hub.proofs.Giving.{covers_after}
 use Rattle.casper_hub.proofs.Left.{entry_of-kept}
@@ -216,17 +217,17 @@ covers_given hub own wants missing opened opened_own granted ready gives = recor
     before = covers_ready hub own wants missing opened opened_own ready
 
 -- a turn is ready as the server has installed and opened it
-pub ready_for : (who limit : ℕ) (view : HubView) (own installed opened_own : cache.Own) (wants missing listed : List Want) (items trail : List Item) (places : List (Option ClientView)) (pages : PagesView) (opened : HubView)
-    → hub_of trail limit places pages ≡ view → own.client ≡ who → IsSound (hub_of trail limit places pages) → IsPlain (hub_of trail limit places pages) → Owns view own → fallen_in view who ≡ None → CanGrant who view own wants missing
+pub ready_for : (who limit : ℕ) (stabilisations : List Stabilisation) (view : HubView) (own installed opened_own : cache.Own) (wants missing listed : List Want) (items trail : List Item) (places : List (Option ClientView)) (pages : PagesView) (opened : HubView)
+    → hub_of trail limit stabilisations places pages ≡ view → own.client ≡ who → IsSound (hub_of trail limit stabilisations places pages) → Owns view own → fallen_in view who ≡ None → CanGrant who view own wants missing
     → listed ≡ missing → items ≡ trail → installed ≡ record own { held = with_pages pages own.held listed }
-    → Opens who (hub_of items limit places pages) installed opened opened_own → Ready (hub_of trail limit places pages) own wants listed opened opened_own
-ready_for who limit view own installed opened_own wants missing listed items trail places pages opened view_is is sound plain owns up can same items_are installed_is opens = record {
-  sound = whole (hub_of trail limit places pages) sound plain;
-  owns = owning (hub_of trail limit places pages) own sound (subst (λ (h : HubView). Owns h own) (sym view_is) owns)
-      (ap (fallen_in (hub_of trail limit places pages)) is ∙ subst (λ (h : HubView). fallen_in h who ≡ None) (sym view_is) up);
-  can = subst (λ (l : List Want). CanGrant own.client (hub_of trail limit places pages) own wants l) (sym same)
-      (subst (λ (w : ℕ). CanGrant w (hub_of trail limit places pages) own wants missing) (sym is) (subst (λ (h : HubView). CanGrant who h own wants missing) (sym view_is) can));
-  opens = subst (λ (w : ℕ). Opens w (hub_of trail limit places pages) (record own { held = with_pages pages own.held listed }) opened opened_own) (sym is)
-      (subst (λ (o : cache.Own). Opens who (hub_of trail limit places pages) o opened opened_own) installed_is
-      (subst (λ (l : List Item). Opens who (hub_of l limit places pages) installed opened opened_own) items_are opens));
+    → Opens who (hub_of items limit stabilisations places pages) installed opened opened_own → Ready (hub_of trail limit stabilisations places pages) own wants listed opened opened_own
+ready_for who limit stabilisations view own installed opened_own wants missing listed items trail places pages opened view_is is sound owns up can same items_are installed_is opens = record {
+  sound = whole (hub_of trail limit stabilisations places pages) sound;
+  owns = owning (hub_of trail limit stabilisations places pages) own sound (subst (λ (h : HubView). Owns h own) (sym view_is) owns)
+      (ap (fallen_in (hub_of trail limit stabilisations places pages)) is ∙ subst (λ (h : HubView). fallen_in h who ≡ None) (sym view_is) up);
+  can = subst (λ (l : List Want). CanGrant own.client (hub_of trail limit stabilisations places pages) own wants l) (sym same)
+      (subst (λ (w : ℕ). CanGrant w (hub_of trail limit stabilisations places pages) own wants missing) (sym is) (subst (λ (h : HubView). CanGrant who h own wants missing) (sym view_is) can));
+  opens = subst (λ (w : ℕ). Opens w (hub_of trail limit stabilisations places pages) (record own { held = with_pages pages own.held listed }) opened opened_own) (sym is)
+      (subst (λ (o : cache.Own). Opens who (hub_of trail limit stabilisations places pages) o opened opened_own) installed_is
+      (subst (λ (l : List Item). Opens who (hub_of l limit stabilisations places pages) installed opened opened_own) items_are opens));
 }

@@ -13,26 +13,27 @@ use Rattle.casper_cache.specs.Holding.{ArePagesDistinct}
 use Rattle.casper_cache.specs.Own as cache
 use Rattle.casper_model.specs.Held.{is_to_write}
 use Rattle.casper_model.specs.Opening.{any_right}
-use Rattle.casper_hub.specs.HubView.{ClientView, PagesView, place_in, asks_of, caps_of, with_cap}
+use Rattle.casper_model.specs.Stabilisation.{Stabilisation}
+use Rattle.casper_hub.specs.HubView.{ClientView, PagesView, place_in, asks_of, caps_of, begun_with}
 use Rattle.casper_hub.specs.HubFields.{hub_of}
 use Rattle.casper_hub.specs.Asks.{are_for, asks_for, is_asked_for}
 use Rattle.casper_hub.specs.Given.{met, right_kept, kept_as, topped, asked_below, GivesUp, Meets}
 use Rattle.casper_hub.specs.Stages.{Opens}
 use Rattle.casper_hub.proofs.KeptPages.{any_same}
 use Rattle.casper_hub.proofs.Left.{distinct-kept}
-use Rattle.casper_hub.proofs.Opened.{asks_with_cap, length_kept}
+use Rattle.casper_hub.proofs.Opened.{asks_of_begun, length_kept}
 use Rattle.casper_hub.proofs.Meeting.{right_after_asks}
 
 -- a client with another cap asks for what it asked for
-pub asks_beside_cap : (places after : List (Option ClientView)) (who cap : ℕ) → who < length places → after ≡ slice_set places who (with_cap cap (place_in places who))
+pub asks_beside_cap : (places after : List (Option ClientView)) (who cap : ℕ) → who < length places → after ≡ slice_set places who (begun_with cap (place_in places who))
     → (other : ℕ) → asks_of (place_in after other) ≡ asks_of (place_in places other)
 asks_beside_cap places after who cap within is other =
     ap (λ (l : List (Option ClientView)). asks_of (place_in l other)) is
     ∙ ⊎_elim
-    (λ same. ap (λ n. asks_of (place_in (slice_set places who (with_cap cap (place_in places who))) n)) same
-    ∙ ap asks_of (get_or-set_same places who (with_cap cap (place_in places who)) None within)
-    ∙ asks_with_cap cap (place_in places who) ∙ ap (λ n. asks_of (place_in places n)) (sym same))
-    (λ apart. ap asks_of (get_or-set_other places who other (with_cap cap (place_in places who)) None apart))
+    (λ same. ap (λ n. asks_of (place_in (slice_set places who (begun_with cap (place_in places who))) n)) same
+    ∙ ap asks_of (get_or-set_same places who (begun_with cap (place_in places who)) None within)
+    ∙ asks_of_begun cap (place_in places who) ∙ ap (λ n. asks_of (place_in places n)) (sym same))
+    (λ apart. ap asks_of (get_or-set_other places who other (begun_with cap (place_in places who)) None apart))
     (cases_eq other who)
 
 -- the same asks leave the same rights
@@ -74,16 +75,16 @@ gives_recorded who cap pages after own recorded held_after was gives =
     subst (λ (l : List Held). GivesUp who pages l after held_after) (ap (λ (o : cache.Own). o.held) was) gives
 
 -- what was recorded, and the asks that then were met, open a turn
-pub opens_recorded : (who limit free : ℕ) (trail trail_after : List Item) (places after : List (Option ClientView)) (pages pages_after : PagesView) (own recorded own_after : cache.Own)
+pub opens_recorded : (who limit : ℕ) (stabilisations : List Stabilisation) (free : ℕ) (trail trail_after : List Item) (places after : List (Option ClientView)) (pages pages_after : PagesView) (own recorded own_after : cache.Own)
     → who < length places → free ≡ limit - entry_count trail - caps_of places
     → trail_after ≡ trail ++ as_items (entries_by who own.pending)
-    → after ≡ slice_set places who (with_cap (topped own free) (place_in places who))
+    → after ≡ slice_set places who (begun_with (topped own free) (place_in places who))
     → recorded ≡ record own { pending = []; cap = topped own free } → own_after ≡ record recorded { held = own_after.held }
     → Meets who (asked_below 33 is_to_write after who) (asked_below 33 any_right after who) pages recorded.held pages_after own_after.held
-    → Opens who (hub_of trail limit places pages) own (hub_of trail_after limit after pages_after) own_after
-opens_recorded who limit free trail trail_after places after pages pages_after own recorded own_after within room grows changed was is meets = record {
-  hub_is = ap₂ (λ items clients. hub_of items limit clients pages_after) grows
-      (changed ∙ ap (λ n. slice_set places who (with_cap (topped own n) (place_in places who))) room);
+    → Opens who (hub_of trail limit stabilisations places pages) own (hub_of trail_after limit stabilisations after pages_after) own_after
+opens_recorded who limit stabilisations free trail trail_after places after pages pages_after own recorded own_after within room grows changed was is meets = record {
+  hub_is = ap₂ (λ items clients. hub_of items limit stabilisations clients pages_after) grows
+      (changed ∙ ap (λ n. slice_set places who (begun_with (topped own n) (place_in places who))) room);
   own_is = own_given own recorded own_after (topped own free) was is ∙ ap (λ n. record own { pending = []; cap = topped own n; held = own_after.held }) room;
   gives = gives_recorded who (topped own free) pages pages_after own recorded own_after.held was meets.gives;
   kept = λ page. right_after_asks who after pages pages_after recorded.held own_after.held meets page

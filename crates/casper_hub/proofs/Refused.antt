@@ -5,11 +5,12 @@ use Rattle.casper_cache.specs.Own as cache
 use Rattle.casper_hub.specs.HubView.{HubView, ClientView, client_in, cap_of, asks_of, fallen_in, with_asks, page_count, is_live}
 use Rattle.casper_hub.specs.Words.{live_value, seen_value, FramesAreRight, CacheIsRight}
 use Rattle.casper_hub.specs.Stages.{Refuses}
-use Rattle.casper_hub.specs.Sound.{IsWellFormed, IsPlain}
+use Rattle.casper_hub.specs.Sound.{IsWellFormed}
 use Rattle.casper_hub.proofs.Whole.{Whole, Owning}
 use Rattle.casper_hub.proofs.Relying.{same_held}
-use Rattle.casper_hub.proofs.Changing.{IsPlainPlace, changed, changed_here, formed_changed, plain_changed}
-use Rattle.casper_hub.proofs.Opened.{Begins, begins_owned, seen_without_calls, opened_sound, opened_live, opened_up, opened_frames, opened_words}
+use Rattle.casper_hub.proofs.Changing.{changed, changed_here, formed_changed}
+use Rattle.casper_hub.proofs.Opened.{seen_without_calls}
+use Rattle.casper_hub.proofs.TurnOpened.{opening_whole, opening_count, opening_client, opening_pending, opening_live, opening_up, opening_frames, opening_words}
 
 -- a client with other asks
 pub live_with_asks : (asks : List Want) (place : Option ClientView) → is_some (with_asks asks place) ≡ is_some place
@@ -19,12 +20,6 @@ live_with_asks asks (Some client) = refl
 pub cap_with_asks : (asks : List Want) (place : Option ClientView) → cap_of (with_asks asks place) ≡ cap_of place
 cap_with_asks asks None = refl
 cap_with_asks asks (Some client) = refl
-
-pub plain_with_asks : (asks : List Want) (place : Option ClientView) → IsPlainPlace place → IsPlainPlace (with_asks asks place)
-plain_with_asks asks None plain client e = cc
-plain_with_asks asks (Some shown) plain client e =
-    let same : record shown { asks = asks } ≡ client = cc in
-    subst (λ (c : ClientView). c.kept ≡ None) same (plain shown refl)
 
 pub fallen_with_asks : (asks : List Want) (place : Option ClientView)
     → option_and_then (λ (client : ClientView). client.fallen) (with_asks asks place) ≡ option_and_then (λ (client : ClientView). client.fallen) place
@@ -45,7 +40,7 @@ module _ (asks : List Want) (hub : HubView) (own : cache.Own) (after : HubView) 
 
   -- the hub was sound before
   pub refused_opened : Whole refuses.opened
-  refused_opened = opened_sound hub own own.held refuses.opened own_after (begins_owned hub own sound owns) owns refuses.opens
+  refused_opened = opening_whole hub own refuses.opened own_after sound owns refuses.opens
 
   -- its parts fit together
   pub refused_formed : ((ask : Want) → Contains asks ask → ask.page < page_count hub) → IsWellFormed after
@@ -53,14 +48,8 @@ module _ (asks : List Want) (hub : HubView) (own : cache.Own) (after : HubView) 
       subst IsWellFormed (sym refuses.hub_is)
       (formed_changed refuses.opened refuses.opened.trail own.client asking_place refuses.opened.pages refused_opened.sound.formed owns.client
       (asks_in_range asks (client_in refuses.opened own.client) (page_count refuses.opened)
-      (λ ask inside. subst (λ n. ask.page < n) (sym refuses.opens.gives.rights_count) (range ask inside)))
+      (λ ask inside. subst (λ n. ask.page < n) (sym (opening_count hub own refuses.opened own_after sound owns refuses.opens)) (range ask inside)))
       refl refl refused_opened.holders (λ client page is differ. refl) (refused_opened.framed own.client) (λ page is. is))
-
-  pub refused_plain : IsPlain after
-  refused_plain =
-      subst IsPlain (sym refuses.hub_is)
-      (plain_changed refuses.opened refuses.opened.trail own.client asking_place refuses.opened.pages refused_opened.plain refused_opened.places owns.client
-      (plain_with_asks asks (client_in refuses.opened own.client) (refused_opened.unkept own.client)))
 
   -- its client has not fallen
   pub refused_up : fallen_in after own_after.client ≡ None
@@ -70,26 +59,26 @@ module _ (asks : List Want) (hub : HubView) (own : cache.Own) (after : HubView) 
       ∙ ap (option_and_then (λ (client : ClientView). client.fallen))
       (changed_here refuses.opened refuses.opened.trail own.client asking_place refuses.opened.pages refused_opened.places owns.client)
       ∙ fallen_with_asks asks (client_in refuses.opened own.client)
-      ∙ ap (fallen_in refuses.opened) (sym same_client) ∙ opened_up own.client hub own refuses.opened own_after (begins_owned hub own sound owns) refuses.opens
+      ∙ ap (fallen_in refuses.opened) (sym same_client) ∙ opening_up hub own refuses.opened own_after sound owns refuses.opens
     where
       same_client : own_after.client ≡ own.client
-      same_client = ap (λ (o : cache.Own). o.client) refuses.opens.own_is
+      same_client = opening_client hub own refuses.opened own_after sound owns refuses.opens
 
   -- and it stays live
   pub refused_live : is_live after own_after.client ≡ true
   refused_live =
-      ap (is_live after) (ap (λ (o : cache.Own). o.client) refuses.opens.own_is)
+      ap (is_live after) (opening_client hub own refuses.opened own_after sound owns refuses.opens)
       ∙ ap (λ (h : HubView). is_live h own.client) refuses.hub_is
       ∙ ap is_some (changed_here refuses.opened refuses.opened.trail own.client asking_place refuses.opened.pages refused_opened.places owns.client)
       ∙ live_with_asks asks (client_in refuses.opened own.client)
-      ∙ opened_live own.client hub own refuses.opened own_after (begins_owned hub own sound owns) refuses.opens
+      ∙ ap (is_live refuses.opened) (sym (opening_client hub own refuses.opened own_after sound owns refuses.opens)) ∙ opening_live hub own refuses.opened own_after sound owns refuses.opens
 
 -- the frames of the server stay right
 pub refused_frames : (base : List (List ℕ)) (asks : List Want) (hub : HubView) (own : cache.Own) (after : HubView) (own_after : cache.Own) → Whole hub → Owning hub own
     → Refuses own.client asks hub own after own_after → FramesAreRight base hub → CacheIsRight base hub own → FramesAreRight base after
 refused_frames base asks hub own after own_after sound owns refuses frames words =
     subst (λ (h : HubView). FramesAreRight base h) (sym refuses.hub_is)
-    (opened_frames base own.client hub own refuses.opened own_after (begins_owned hub own sound owns) refuses.opens frames words)
+    (opening_frames hub own refuses.opened own_after sound owns refuses.opens base frames words)
 
 -- and so do those of the cache
 pub refused_words : (base : List (List ℕ)) (asks : List Want) (hub : HubView) (own : cache.Own) (after : HubView) (own_after : cache.Own) → Whole hub → Owning hub own
@@ -97,13 +86,10 @@ pub refused_words : (base : List (List ℕ)) (asks : List Want) (hub : HubView) 
 refused_words base asks hub own after own_after sound owns refuses words =
     same_held (seen_value base refuses.opened own_after) (seen_value base after own_after) own_after.held
     (λ page word held.
-    seen_without_calls base refuses.opened own_after (opened_up own.client hub own refuses.opened own_after begins refuses.opens) none page word
+    seen_without_calls base refuses.opened own_after (opening_up hub own refuses.opened own_after sound owns refuses.opens) none page word
     ∙ sym (seen_without_calls base after own_after (refused_up asks hub own after own_after sound owns refuses) none page word
     ∙ ap (λ (h : HubView). live_value base h page word) refuses.hub_is))
-    (opened_words base own.client hub own refuses.opened own_after begins refuses.opens words)
+    (opening_words hub own refuses.opened own_after sound owns refuses.opens base words)
   where
-    begins : Begins own.client hub own
-    begins = begins_owned hub own sound owns
-
     none : own_after.pending ≡ []
-    none = ap (λ (o : cache.Own). o.pending) refuses.opens.own_is
+    none = opening_pending hub own refuses.opened own_after sound owns refuses.opens

@@ -1,22 +1,18 @@
-use Rattle.std.proofs.Common.{◌≡◌, ◌<◌, ◌^◌, ◌++◌, ℕ, List, [], ◌∷◌, Bool, true, false, not, ◌&&◌, cond, length, filter, refl, sym, ap, ◌∙◌, subst, true≢false, Contains, arith}
+use Rattle.std.proofs.Common.{◌≡◌, ◌<◌, ◌^◌, ◌++◌, ℕ, List, [], ◌∷◌, Bool, true, false, not, cond, length, filter, refl, sym, ap, ◌∙◌, subst, true≢false, Contains, arith}
 use Rattle.std.specs.Prelude.{Option, None, Some, IsSome, is_some, option_map, option_and_then}
 use Rattle.std.proofs.Math.Seq.{take-append_seam}
-use Rattle.std.proofs.lemmas.Bool.{false_from_ne_true, and_parts}
+use Rattle.std.proofs.lemmas.Bool.{false_from_ne_true}
 use Rattle.casper_words.specs.Crew.{has_member}
 use Rattle.casper_words.specs.declared.page.Right.{Right}
 use Rattle.casper_words.specs.declared.page.Right.TheVariants as may
 use Rattle.casper_words.specs.declared.page.Want.{Want}
-use Rattle.casper_trail.specs.declared.entry.Entry.{Entry}
 use Rattle.casper_trail.specs.declared.item.Item.{Item}
 use Rattle.casper_trail.specs.declared.item.Item.TheVariants as item
 use Rattle.casper_trail.specs.declared.mark.Mark.TheVariants.{Rollback}
-use Rattle.casper_trail.specs.Value.{writes_page}
-use Rattle.casper_trail.specs.Parts.{live_entries, open_entries}
+use Rattle.casper_trail.specs.Parts.{live_entries}
 use Rattle.casper_trail.specs.Association.{association_of}
-use Rattle.casper_trail.specs.GrowthLaws.{WritersAreWith}
-use Rattle.casper_trail.specs.Modified.{is_modified, is_modified_by}
-use Rattle.casper_trail.proofs.Pages.{page_of_others}
-use Rattle.casper_trail.proofs.Rounds.{member_is_client, association_goes_both_ways, association_of_a_member}
+use Rattle.casper_trail.specs.Modified.{is_modified_by}
+use Rattle.casper_trail.proofs.Rounds.{member_is_client}
 use Rattle.casper_model.specs.Client.{Client, Fallen}
 use Rattle.casper_model.specs.Held.{allows}
 use Rattle.casper_model.specs.Loss.{dropped_of, rolled_back}
@@ -24,15 +20,13 @@ use Rattle.casper_model.specs.Loss as machine
 use Rattle.casper_model.specs.Shared.{Shared, client_at, rights_at, of_client}
 use Rattle.casper_model.specs.Stabilisation.{Stabilisation}
 use Rattle.casper_model.proofs.Places.{client_each, length_each}
-use Rattle.casper_turns.proofs.Lists.{any_found, any_none}
 use Rattle.casper_hub.specs.HubView.{HubView, ClientView, FallenView, client_in, right_in, frame_in, asks_of, felled}
 use Rattle.casper_hub.specs.RollingBack.{RollsBack, fall_behind}
 use Rattle.casper_hub.specs.Shows.{permits, Shows, ShowsClient, ShowsLive}
 use Rattle.casper_hub.specs.Sound.{IsSound, IsWellFormed}
 use Rattle.casper_hub.proofs.Changing.{same_rights}
-use Rattle.casper_hub.proofs.Relying.{some_reads}
+use Rattle.casper_hub.proofs.Holders.{holder_is_member}
 use Rattle.casper_hub.proofs.ShownAfter.{shown_by_others}
-use Rattle.casper_hub.proofs.StandsFor.{stands_for}
 use Rattle.casper_hub.proofs.Whole.{marked_sound}
 
 -- A rolled back hub stands for the machine's rollback, and its parts fit together.
@@ -133,32 +127,6 @@ module _ (lost : ℕ) (hub after : HubView) (rolls : RollsBack lost hub after) (
         ]) refl;
   }
 
-  -- the open writes of a page are of the association of each client that has a right to it
-  writers_with_holder : (who page : ℕ) → IsSome (right_in hub who page) → WritersAreWith hub.trail page who
-  writers_with_holder who page has =
-      let stands = stands_for hub sound.stands in
-      subst (λ items. WritersAreWith items page who) stands.shows.trail
-      (stands.good.writers who page (stands.shows.rights who page may.Read ∙ some_reads (right_in hub who page) has))
-
-  -- so who has a right to a page that a member modified is a member
-  pub holder_is_member : (who page : ℕ) → IsSome (right_in hub who page) → is_modified_by members hub.trail page ≡ true → has_member who members ≡ true
-  holder_is_member who page has modified =
-      let found = any_found (λ (entry : Entry). writes_page page entry && has_member entry.who members) (open_entries hub.trail) modified in
-      let write : Entry = found.0 in
-      let parts = and_parts (writes_page page write) (has_member write.who members) found.2 in
-      ap (has_member who) (sym (association_of_a_member hub.trail lost write.who parts.1))
-      ∙ association_goes_both_ways hub.trail who write.who (writers_with_holder who page has write found.1 parts.0)
-
-  -- and a page to which a member has a right is not modified where no member modified it
-  pub unmodified_for_member : (who page : ℕ) → IsSome (right_in hub who page) → has_member who members ≡ true → is_modified_by members hub.trail page ≡ false
-      → is_modified hub.trail page ≡ false
-  unmodified_for_member who page has member others =
-      any_none (writes_page page) (open_entries hub.trail)
-      (λ write inside writes.
-      true≢false
-      (sym (writers_with_holder who page has write inside writes) ∙ ap (has_member write.who) (association_of_a_member hub.trail lost who member)
-      ∙ page_of_others members hub.trail page others write inside writes))
-
   -- the parts of the hub fit together
   pub formed_rolled_back : IsWellFormed after
   formed_rolled_back = record {
@@ -171,27 +139,10 @@ module _ (lost : ℕ) (hub after : HubView) (rolls : RollsBack lost hub after) (
         let out : has_member who members ≡ false = false_from_ne_true (has_member who members) (λ member. true≢false (sym (ap is_some is) ∙ ap is_some (revoked who page member))) in
         let had : right_in hub who page ≡ Some may.Write = sym (not_revoked who page out) ∙ is in
         let others : is_modified_by members hub.trail page ≡ false =
-        false_from_ne_true (is_modified_by members hub.trail page) (λ modified. true≢false (sym (holder_is_member who page (ap is_some had) modified) ∙ out)) in
+        false_from_ne_true (is_modified_by members hub.trail page) (λ modified. true≢false (sym (holder_is_member lost hub sound who page (ap is_some had) modified) ∙ out)) in
         subst (λ (o : Option (List ℕ)). IsSome o) (sym (rolls.frames page ∙ ap (λ b. cond b None (frame_in hub.pages page)) others)) (sound.formed.framed who page had);
     asked = λ who ask inside.
         subst (λ n. ask.page < n) (sym rolls.pages)
         (sound.formed.asked who ask
         (asks_left hub.trail who (has_member who members) (client_in hub who) ask (subst (λ (o : Option ClientView). Contains (asks_of o) ask) (rolls.clients who) inside)));
   }
-
-  -- nothing is being made stable where nothing was
-  pub quiet_rolled_back : hub.stabilisations ≡ [] → after.stabilisations ≡ []
-  quiet_rolled_back quiet = rolls.stabilisations ∙ ap (filter (λ (one : Stabilisation). not (has_member one.lead members))) quiet
-
-  -- and no outcome is kept where none was
-  pub unkept_rolled_back : ((who : ℕ) (client : ClientView) → client_in hub who ≡ Some client → client.kept ≡ None)
-      → (who : ℕ) (client : ClientView) → client_in after who ≡ Some client → client.kept ≡ None
-  unkept_rolled_back unkept who client is = by_place (has_member who members) (client_in hub who) (unkept who) (sym (rolls.clients who) ∙ is)
-    where
-      by_place : (member : Bool) (place : Option ClientView) → ((one : ClientView) → place ≡ Some one → one.kept ≡ None)
-          → cond member (felled (fall_behind hub.trail who) place) place ≡ Some client → client.kept ≡ None
-      by_place true None none e = cc
-      by_place false None none e = cc
-      by_place true (Some one) none e =
-          let same : record one { asks = []; fallen = Some (fall_behind hub.trail who) } ≡ client = cc in ap (λ (c : ClientView). c.kept) (sym same) ∙ none one refl
-      by_place false (Some one) none e = none client e

@@ -24,8 +24,7 @@ pub record LeavesOthers (who : ℕ) (shared shared_after : Shared) (hub after : 
   pub limit_too : after.limit ≡ hub.limit
   pub pages : shared_after.pages ≡ shared.pages
   pub pages_too : page_count after ≡ page_count hub
-  pub stabilisations : shared_after.stabilisations ≡ shared.stabilisations
-  pub stabilisations_too : after.stabilisations ≡ hub.stabilisations
+  pub stabilisations : shared_after.stabilisations ≡ after.stabilisations
   pub places : length shared_after.clients ≡ length shared.clients
   pub clients : (other : ℕ) → other ≢ who → client_at shared_after other ≡ client_at shared other
   pub clients_too : (other : ℕ) → other ≢ who → client_in after other ≡ client_in hub other
@@ -63,7 +62,7 @@ shows_after who shared shared_after hub after shows sound leaves acting acting_r
   limit = leaves.limit ∙ shows.limit ∙ sym leaves.limit_too;
   pages = leaves.pages ∙ shows.pages ∙ sym leaves.pages_too;
   places = leaves.places ∙ shows.places;
-  stabilisations = leaves.stabilisations ∙ shows.stabilisations ∙ sym leaves.stabilisations_too;
+  stabilisations = leaves.stabilisations;
   clients = λ other. ⊎_elim (λ is. subst (λ n. ShowsClient after.trail (client_at shared_after n) (client_in after n)) (sym is) acting) (of_other other) (cases_eq other who);
   rights = λ other page right.
       ⊎_elim (λ is. subst (λ n. allows (rights_at shared_after n) page right ≡ permits (right_in after n page) right) (sym is) (acting_rights page right))

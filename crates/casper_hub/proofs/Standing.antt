@@ -1,19 +1,17 @@
-use Rattle.std.proofs.Common.{◌≡◌, ◌<◌, ◌≤◌, ℕ, ◌+◌, ◌-◌, List, [], true, ◌&&◌, length, refl, sym, ap, ◌∙◌, subst, true≢false, arith}
-use Rattle.std.specs.Prelude.{Option, None, Some, is_some, option_map, option_and_then, find}
+use Rattle.std.proofs.Common.{◌≡◌, ◌<◌, ◌≤◌, ℕ, ◌+◌, ◌-◌, [], true, length, refl, sym, ap, ◌∙◌, subst, true≢false, arith}
+use Rattle.std.specs.Prelude.{Option, None, Some, is_some, option_map, option_and_then}
 use Rattle.casper_trail.specs.TrailView.{entry_count}
 use Rattle.casper_trail.specs.Calls.{entry_by, entries_by}
 use Rattle.casper_trail.proofs.CallLists.{count_of_more_entries}
 use Rattle.std.proofs.lemmas.List.{length-map}
 use Rattle.casper_cache.specs.Own as cache
 use Rattle.casper_model.specs.Client.{Client}
-use Rattle.casper_model.specs.Stabilisation.{Stabilisation, is_gathering}
 use Rattle.casper_model.specs.Shared.{Shared, client_at, fallen_at, of_client}
 use Rattle.casper_model.specs.Own.{Own}
 use Rattle.casper_model.specs.Both.{Both}
 use Rattle.casper_model.specs.Room.{all_caps, free_room}
-use Rattle.casper_model.specs.Frozen.{is_member}
 use Rattle.casper_model.specs.Held.{allows}
-use Rattle.casper_model.specs.Opening.{kept_dropped, recorded, begun, given_up, handed_in_to, opened}
+use Rattle.casper_model.specs.Opening.{kept_dropped, recorded, begun, given_up, gathering_of, handed_in_to, opened}
 use Rattle.casper_model.specs.Rights.{Agrees, AgreesUnlessFallen, TurnStands, AllowTheSame}
 use Rattle.casper_model.proofs.Places.{client_changed}
 use Rattle.casper_model.proofs.OpeningRights.{places_changed}
@@ -32,7 +30,6 @@ pub record Live (shared : Shared) (hub : HubView) (who : ℕ) : Type 0 where
   pub at : client_at shared who ≡ Some client
   pub is : client_in hub who ≡ Some shown
   pub shows : ShowsLive hub.trail client shown
-  pub kept : shown.kept ≡ None
   pub up : shown.fallen ≡ None
 
 live_by : (shared : Shared) (hub : HubView) (who : ℕ) (place : Option Client) (shown : Option ClientView) → Whole hub → client_at shared who ≡ place → client_in hub who ≡ shown
@@ -46,7 +43,6 @@ live_by shared hub who (Some client) (Some shown) sound at is live shows up = re
   at = at;
   is = is;
   shows = shows;
-  kept = sound.unkept who shown is;
   up = sym (ap (option_and_then (λ (one : ClientView). one.fallen)) is) ∙ up;
 }
 
@@ -84,13 +80,9 @@ stands shared hub own shows sound owns = record {
     same page right =
         ap (λ place. allows (of_client [] (λ (client : Client). client.rights) place) page right) (sym live.at) ∙ shows.rights own.client page right ∙ ap (λ one. permits one right) (owns.rights page) ∙ sym (allows_right own.held owns.sound.distinct page right)
 
--- where nothing is being made stable an opening hands nothing in
-handed_to_none : (both : Both) (who : ℕ) (stabilisations : List Stabilisation) → stabilisations ≡ []
-    → handed_in_to both (find (λ one. is_gathering one.phase && is_member both.shared who one) stabilisations) ≡ both
-handed_to_none both who stabilisations none = ap (λ list. handed_in_to both (find (λ one. is_gathering one.phase && is_member both.shared who one) list)) none
-
-pub opened_plain : (shared : Shared) (own : Own) → shared.stabilisations ≡ [] → opened shared own ≡ given_up (begun shared own)
-opened_plain shared own none = let both = given_up (begun shared own) in handed_to_none both both.own.who shared.stabilisations none
+-- where the client's association is not gathering an opening hands nothing in
+pub opened_apart : (shared : Shared) (own : Own) → gathering_of (given_up (begun shared own)).shared own.who ≡ None → opened shared own ≡ given_up (begun shared own)
+opened_apart shared own none = let both = given_up (begun shared own) in ap (handed_in_to both) none
 
 -- the free room once the pending calls are recorded is what it was before
 pub free_recorded : (shared : Shared) (own : Own) → TurnStands shared own → fallen_at shared own.who ≡ None → length own.pending ≤ own.cap

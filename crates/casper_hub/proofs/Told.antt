@@ -1,17 +1,16 @@
-use Rattle.std.proofs.Common.{◌≡◌, ◌≤◌, ◌<◌, ℕ, List, [], true, length, get_or-set_same, get_or-set_other, append-nil, refl, sym, ap, ◌∙◌, subst, Contains, arith}
+use Rattle.std.proofs.Common.{◌≡◌, ◌≤◌, ℕ, List, [], true, length, get_or-set_same, get_or-set_other, append-nil, refl, sym, ap, ◌∙◌, subst, Contains, arith}
 use Rattle.std.specs.Prelude.{Option, None, Some, is_some, option_map, slice_set}
 use Rattle.casper_words.specs.Crew.{IsClient}
 use Rattle.casper_words.specs.declared.page.Right.{Right}
 use Rattle.casper_words.specs.declared.page.Want.{Want}
 use Rattle.casper_trail.specs.declared.item.Item.{Item}
-use Rattle.casper_dir.specs.Rights.{AreAllClients}
 use Rattle.casper_cache.specs.Own as cache
 use Rattle.casper_model.specs.declared.reply.Reply.{Reply}
 use Rattle.casper_model.specs.declared.reply.Reply.TheVariants as reply
 use Rattle.casper_model.specs.declared.reply.Served.{Served}
 use Rattle.casper_model.specs.declared.reply.Served.TheVariants as served
 use Rattle.casper_model.specs.Acquire.{acquire, acquired_by}
-use Rattle.casper_model.specs.Client.{Client, Fallen}
+use Rattle.casper_model.specs.Client.{Client}
 use Rattle.casper_model.specs.Held.{allows}
 use Rattle.casper_model.specs.Leave.{serve, served_by, depart, departed_by}
 use Rattle.casper_model.specs.Opening.{told_of_fall}
@@ -21,9 +20,9 @@ use Rattle.casper_model.proofs.OpeningRights.{places_changed}
 use Rattle.casper_hub.specs.HubView.{HubView, ClientView, FallenView, client_in, asks_of, fallen_in, right_in, is_live, risen}
 use Rattle.casper_hub.specs.Owned.{own_of}
 use Rattle.casper_hub.specs.Shows.{permits, fallen_of, Shows, ShowsClient}
-use Rattle.casper_hub.specs.Sound.{IsWellFormed, IsPlain}
+use Rattle.casper_hub.specs.Sound.{IsWellFormed}
 use Rattle.casper_hub.specs.Turns.{IsTurn}
-use Rattle.casper_hub.proofs.Changing.{IsPlainPlace, changed_here, formed_changed, plain_changed}
+use Rattle.casper_hub.proofs.Changing.{changed_here, formed_changed}
 use Rattle.casper_hub.proofs.Showing.{fall_shown}
 use Rattle.casper_hub.proofs.ShownAfter.{shows_after}
 use Rattle.casper_hub.proofs.Whole.{Whole}
@@ -38,12 +37,12 @@ told hub who = record hub { clients = slice_set hub.clients who (risen (client_i
 abbrev rise : Client → Client
 rise client = record client { kept = None; fallen = None }
 
-shown_risen : (trail : List Item) (place : Option Client) (shown : Option ClientView) → IsPlainPlace shown → ShowsClient trail place shown
+shown_risen : (trail : List Item) (place : Option Client) (shown : Option ClientView) → ShowsClient trail place shown
     → ShowsClient trail (option_map rise place) (risen shown)
-shown_risen trail None None plain shows = tt
-shown_risen trail None (Some shown) plain shows = absurd shows
-shown_risen trail (Some client) None plain shows = absurd shows
-shown_risen trail (Some client) (Some shown) plain shows = record { cap = shows.cap; asks = shows.asks; kept = sym (plain shown refl); fallen = refl }
+shown_risen trail None None shows = tt
+shown_risen trail None (Some shown) shows = absurd shows
+shown_risen trail (Some client) None shows = absurd shows
+shown_risen trail (Some client) (Some shown) shows = record { cap = shows.cap; asks = shows.asks; kept = refl; fallen = refl }
 
 rights_risen : (place : Option Client)
     → of_client [] (λ (client : Client). client.rights) (option_map rise place) ≡ of_client [] (λ (client : Client). client.rights) place
@@ -58,12 +57,6 @@ live_risen : (place : Option ClientView) → is_some (risen place) ≡ is_some p
 live_risen None = refl
 live_risen (Some client) = refl
 
-plain_risen : (place : Option ClientView) → IsPlainPlace place → IsPlainPlace (risen place)
-plain_risen None plain client e = cc
-plain_risen (Some shown) plain client e =
-    let same : record shown { fallen = None } ≡ client = cc in
-    subst (λ (c : ClientView). c.kept ≡ None) same (plain shown refl)
-
 -- the hub after it stands for what the machine has after it
 told_shows : (shared : Shared) (hub : HubView) (own : cache.Own) → Shows shared hub → Whole hub → IsClient own.client
     → Shows (told_of_fall shared (own_of own)).shared (told hub own.client)
@@ -77,8 +70,7 @@ told_shows shared hub own shows sound client =
       limit_too = refl;
       pages = refl;
       pages_too = refl;
-      stabilisations = refl;
-      stabilisations_too = refl;
+      stabilisations = shows.stabilisations;
       places = places_changed own.client rise shared;
       clients = λ other apart. client_unchanged own.client rise shared other apart;
       clients_too = λ other apart. get_or-set_other hub.clients own.client other (risen (client_in hub own.client)) None apart;
@@ -100,7 +92,7 @@ told_shows shared hub own shows sound client =
     acting =
         subst (λ place. ShowsClient hub.trail place (client_in (told hub own.client) own.client)) (sym there)
         (subst (λ shown. ShowsClient hub.trail (option_map rise (client_at shared own.client)) shown) (sym here)
-        (shown_risen hub.trail (client_at shared own.client) (client_in hub own.client) (sound.unkept own.client) (shows.clients own.client)))
+        (shown_risen hub.trail (client_at shared own.client) (client_in hub own.client) (shows.clients own.client)))
 
     acting_rights : (page : ℕ) (right : Right)
         → allows (rights_at (told_of_fall shared (own_of own)).shared own.client) page right ≡ permits (right_in (told hub own.client) own.client page) right
@@ -131,19 +123,13 @@ module _ (hub : HubView) (own : cache.Own) (after : HubView) (own_after : cache.
       owns = λ shared shows. ap own_of tells.own_is ∙ sym (ap (λ f. (served_by shared (own_of own) f).own) (fell_at shared shows));
     }
 
-  -- the parts of the hub fit together, and no outcome is kept
+  -- the parts of the hub fit together
   pub told_formed : IsWellFormed after
   told_formed =
       subst IsWellFormed (sym tells.hub_is)
       (formed_changed hub hub.trail own.client (risen (client_in hub own.client)) hub.pages tells.sound.sound.formed tells.client
       (λ ask inside. tells.sound.asked own.client ask (subst (λ (asks : List Want). Contains asks ask) (asks_risen (client_in hub own.client)) inside))
       refl refl tells.sound.holders (λ client page is differ. refl) (tells.sound.framed own.client) (λ page is. is))
-
-  pub told_plain : IsPlain after
-  told_plain =
-      subst IsPlain (sym tells.hub_is)
-      (plain_changed hub hub.trail own.client (risen (client_in hub own.client)) hub.pages tells.sound.plain tells.sound.places tells.client
-      (plain_risen (client_in hub own.client) (tells.sound.unkept own.client)))
 
   -- the client stays live, and its cache is sound
   pub told_live : is_live hub own.client ≡ true → is_live after own_after.client ≡ true

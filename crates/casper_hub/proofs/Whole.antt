@@ -25,7 +25,7 @@ use Rattle.casper_turns.specs.Good.{IsGoodWith}
 use Rattle.casper_hub.specs.HubView.{HubView, ClientView, FallenView, client_in, caps_of, cap_of, cap_in, free_in, right_in, frame_in, page_count, asks_in, fallen_in, is_live}
 use Rattle.casper_hub.specs.Owned.{wants_of, own_of, Owns}
 use Rattle.casper_hub.specs.Shows.{permits, fallen_of, Shows, ShowsClient}
-use Rattle.casper_hub.specs.Sound.{IsSound, IsPlain}
+use Rattle.casper_hub.specs.Sound.{IsSound}
 use Rattle.casper_hub.proofs.StandsFor.{stands_for, good_with}
 use Rattle.casper_hub.proofs.Showing.{allows_right, caps_shown, liveness_shown, up_shown}
 
@@ -77,7 +77,6 @@ fallen_client shared hub who fallen (Some client) (Some shown) shows at fell = (
 -- what is true of a hub as a turn begins
 pub record Whole (hub : HubView) : Type 0 where
   pub sound : IsSound hub
-  pub plain : IsPlain hub
   pub places : length hub.clients ≡ 33
   pub holders : AreAllClients hub.pages.rights
   pub frames : length hub.pages.frames ≡ page_count hub
@@ -86,8 +85,6 @@ pub record Whole (hub : HubView) : Type 0 where
   pub nobody : client_in hub 0 ≡ None
   pub within : entry_count hub.trail + caps_of hub.clients ≤ hub.limit
   pub marked : (who : ℕ) (fallen : FallenView) → fallen_in hub who ≡ Some fallen → fallen.mark < length hub.trail
-  pub quiet : hub.stabilisations ≡ []
-  pub unkept : (who : ℕ) (client : ClientView) → client_in hub who ≡ Some client → client.kept ≡ None
 
 pub within_sound : (hub : HubView) → IsSound hub → entry_count hub.trail + caps_of hub.clients ≤ hub.limit
 within_sound hub sound =
@@ -104,10 +101,9 @@ marked_sound hub sound who fallen fell =
     let marked = (stands_for hub sound.stands).good.marked who found.0 (fallen_of hub.trail fallen) found.1 found.2 in
     subst (λ trail. fallen.mark < length trail) shows.trail (found_within shared.trail fallen.mark _ marked.mark)
 
-pub whole : (hub : HubView) → IsSound hub → IsPlain hub → Whole hub
-whole hub sound plain = record {
+pub whole : (hub : HubView) → IsSound hub → Whole hub
+whole hub sound = record {
   sound = sound;
-  plain = plain;
   places = sound.formed.places;
   holders = sound.formed.holders;
   frames = sound.formed.frames;
@@ -116,8 +112,6 @@ whole hub sound plain = record {
   nobody = absent_in (stands_for hub sound.stands).shared hub (stands_for hub sound.stands).shows 0 (stands_for hub sound.stands).good.nobody;
   within = within_sound hub sound;
   marked = marked_sound hub sound;
-  quiet = plain.quiet;
-  unkept = plain.unkept;
 }
 
 -- what is known to all of a live client agrees with its own part
@@ -191,8 +185,8 @@ pub fallen_shown : (shared : Shared) (hub : HubView) (own : cache.Own) → Shows
 fallen_shown shared hub own shows owns = up_shown shared hub shows own.client owns.up
 
 -- the hub that a function shows is whole
-pub whole_at : (view hub : HubView) → view ≡ hub → IsSound view → IsPlain view → Whole hub
-whole_at view hub is sound plain = whole hub (subst IsSound is sound) (subst IsPlain is plain)
+pub whole_at : (view hub : HubView) → view ≡ hub → IsSound view → Whole hub
+whole_at view hub is sound = whole hub (subst IsSound is sound)
 
 -- what is promised to a client is within the limit
 pub cap_within : (hub : HubView) (who : ℕ) → IsClient who → IsSound hub → entry_count hub.trail + cap_in hub who ≤ hub.limit

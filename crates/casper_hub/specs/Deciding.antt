@@ -4,6 +4,8 @@ use Rattle.casper_words.specs.Crew.{clients, crew_of}
 use Rattle.casper_words.specs.declared.page.Right.{Right}
 use Rattle.casper_words.specs.declared.page.Want.{Want}
 use Rattle.casper_dir.specs.Rights.{right_at}
+use Rattle.casper_cache.specs.declared.held.Held.{Held}
+use Rattle.casper_cache.specs.Holding.{right_of}
 use Rattle.casper_dir.specs.Holding.{is_in_conflict}
 use Rattle.casper_model.specs.Held.{is_to_write}
 use Rattle.casper_model.specs.Stabilisation.{is_empty}
@@ -24,6 +26,10 @@ is_missing pages places who want = not (permits (right_kept pages places who wan
 
 abbrev pub missing_in : PagesView → List (Option ClientView) → ℕ → List Want → List Want
 missing_in pages places who wants = filter (is_missing pages places who) wants
+
+-- the wants that a cache does not hold with at least their right
+abbrev pub lacking_in : List Held → List Want → List Want
+lacking_in held wants = filter (λ want. not (permits (right_of want.page held) want.right)) wants
 
 -- whether a right falls to nothing, or from writing to reading
 abbrev pub fell : Option Right → Option Right → Bool

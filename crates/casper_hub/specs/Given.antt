@@ -34,6 +34,10 @@ left_of (Some right) after entry = option_map (λ left. record entry { right = l
 abbrev pub kept_as : (ℕ → Option Right) → (ℕ → Option Right) → Held → Option Held
 kept_as before after entry = left_of (before entry.page) (after entry.page) entry
 
+-- a right once the page is handed in and kept for reading
+abbrev pub lowered_right : Option Right → Option Right
+lowered_right right = option_map {T = Right} (λ held. may.Read) right
+
 -- whether a right is the right to write
 abbrev pub writes : Option Right → Bool
 writes None = false

@@ -60,12 +60,20 @@ fall_of place = option_and_then (λ client. client.fallen) place
 abbrev pub with_cap : ℕ → Option ClientView → Option ClientView
 with_cap cap place = option_map {T = ClientView} (λ client. record client { cap = cap }) place
 
+-- a place as a turn of its client begins, if it is live: with this cap, and no outcome is kept any more
+abbrev pub begun_with : ℕ → Option ClientView → Option ClientView
+begun_with cap place = option_map {T = ClientView} (λ client. record client { cap = cap; kept = None }) place
+
+-- a place whose client, if it is live, has this outcome kept for it
+abbrev pub with_kept : Kept → Option ClientView → Option ClientView
+with_kept outcome place = option_map {T = ClientView} (λ client. record client { kept = Some outcome }) place
+
 abbrev pub with_asks : List Want → Option ClientView → Option ClientView
 with_asks asks place = option_map {T = ClientView} (λ client. record client { asks = asks }) place
 
--- a place whose client, if it is live, was told of its fall, or falls: then its asks are taken away
+-- a place whose client, if it is live, was told of its fall: no outcome is kept any more; or falls: then its asks are taken away
 abbrev pub risen : Option ClientView → Option ClientView
-risen place = option_map {T = ClientView} (λ client. record client { fallen = None }) place
+risen place = option_map {T = ClientView} (λ client. record client { kept = None; fallen = None }) place
 
 abbrev pub felled : FallenView → Option ClientView → Option ClientView
 felled fallen place = option_map {T = ClientView} (λ client. record client { asks = []; fallen = Some fallen }) place

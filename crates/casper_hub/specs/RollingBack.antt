@@ -1,4 +1,5 @@
-use Rattle.std.specs.Prelude.{◌≡◌, ℕ, List, [], ◌∷◌, ◌++◌, not, cond, filter, length, slice_set, None}
+use Rattle.std.specs.Prelude.{◌≡◌, ℕ, List, [], ◌∷◌, ◌++◌, Bool, ◌||◌, not, cond, filter, length, None}
+use Rattle.std.specs.List.{list_any}
 use Rattle.casper_words.specs.Crew.{IsClient, has_member}
 use Rattle.casper_trail.specs.declared.item.Item.{Item}
 use Rattle.casper_trail.specs.declared.item.Item.TheVariants as item
@@ -7,7 +8,7 @@ use Rattle.casper_trail.specs.Association.{association_of}
 use Rattle.casper_trail.specs.Modified.{is_modified_by}
 use Rattle.casper_dir.specs.Rights.{AreAllClients}
 use Rattle.casper_model.specs.Loss.{dropped_of}
-use Rattle.casper_hub.specs.HubView.{HubView, FallenView, client_in, right_in, frame_in, page_count, felled}
+use Rattle.casper_hub.specs.HubView.{HubView, FallenView, is_live, client_in, right_in, frame_in, page_count, felled}
 
 -- the fall of a client by a mark after these items
 abbrev pub fall_behind : List Item → ℕ → FallenView
@@ -29,6 +30,7 @@ pub record RollsBack (lost : ℕ) (hub after : HubView) : Type 0 where
   pub frames : (page : ℕ) → frame_in after.pages page
       ≡ cond (is_modified_by (association_of hub.trail lost) hub.trail page) None (frame_in hub.pages page)
 
--- a hub of which one client became absent
-abbrev pub without_client : ℕ → HubView → HubView
-without_client who hub = record hub { clients = slice_set hub.clients who None }
+-- whether the trail has room for the rollback mark of a client's association: a mark is due of the client, if it is live and has not
+-- fallen, and of each stabilisation of the association, which ends
+abbrev pub is_mark_due : ℕ → HubView → Bool
+is_mark_due lost hub = is_live hub lost || list_any (λ one. has_member one.lead (association_of hub.trail lost)) hub.stabilisations

@@ -1,10 +1,10 @@
-use Rattle.std.specs.Prelude.{◌≡◌, ℕ, ◌<◌, ◌^◌, [], None, Some, Contains, length, IsSome}
+use Rattle.std.specs.Prelude.{◌≡◌, ℕ, ◌<◌, ◌^◌, Some, Contains, length, IsSome}
 use Rattle.casper_words.specs.declared.page.Right.TheVariants as may
 use Rattle.casper_words.specs.declared.page.Want.{Want}
 use Rattle.casper_dir.specs.Rights.{AreAllClients}
 use Rattle.casper_model.specs.Shared.{Shared}
 use Rattle.casper_turns.specs.Good.{IsGoodShared}
-use Rattle.casper_hub.specs.HubView.{HubView, ClientView, client_in, right_in, frame_in, page_count, asks_in}
+use Rattle.casper_hub.specs.HubView.{HubView, right_in, frame_in, page_count, asks_in}
 use Rattle.casper_hub.specs.Shows.{Shows}
 
 -- the parts of a hub fit together: there is a place for each number, each holder of a page is a client, there are as many frames as
@@ -31,8 +31,3 @@ Stands hub = StandsFor hub
 pub record IsSound (hub : HubView) : Type 0 where
   pub formed : IsWellFormed hub
   pub stands : Stands hub
-
--- as yet nothing is being made stable, and no outcome is kept
-pub record IsPlain (hub : HubView) : Type 0 where
-  pub quiet : hub.stabilisations ≡ []
-  pub unkept : (who : ℕ) (client : ClientView) → client_in hub who ≡ Some client → client.kept ≡ None

@@ -1,4 +1,4 @@
-ghost use Rattle.std.specs.Prelude.{◌≡◌, ◌≢◌, ◌<◌, ◌≤◌, ◌+◌, ◌++◌, ℕ, List, length, None, IfOk, OnOk, OnErr, Contains};
+ghost use Rattle.std.specs.Prelude.{◌≡◌, ◌≢◌, ◌<◌, ◌≤◌, ◌+◌, ◌++◌, ℕ, List, length, None, IsSome, IfOk, OnOk, OnErr, Contains, option_map};
 ghost use Rattle.casper_words.specs.Wants.{AreWants};
 ghost use Rattle.casper_words.specs.declared.page.Want.{Want as AWant};
 ghost use Rattle.casper_trail.specs.Calls.{entries_by};
@@ -12,15 +12,18 @@ ghost use Rattle.casper_hub.specs.Sound.{IsSound};
 ghost use Rattle.casper_hub.specs.GoesOn.{KeepsClient, CommitsNothing};
 ghost use Rattle.casper_hub.specs.Words.{FramesAreRight, CacheIsRight};
 ghost use Rattle.casper_hub.specs.Given.{topped};
-ghost use Rattle.casper_hub.specs.Stages.{CanGrant};
+ghost use Rattle.casper_frozen.specs.Refused.{reply_of, refused_at_once};
+ghost use Rattle.casper_hub.specs.Deciding.{missing_in, lacking_in};
+ghost use Rattle.casper_hub.specs.Stages.{CanGrant, gathering_in, part_of};
 ghost use Rattle.casper_hub.specs.Turns.{IsTurn, IsRefused, Acquires};
 
 use crate::Hub;
-use crate::decide::{Decision, decide};
+use crate::decide::{Decision, decide, missing_of, permits};
 use crate::few::FewWants;
 use crate::install::{bring_to_front, grant, install, shrink};
-use crate::opening::{MOST_CAP, SPARE_MARKS, free_room, open};
+use crate::opening::{MOST_CAP, SPARE_MARKS, free_room, open, open_turn};
 use casper_cache::Cache;
+use casper_frozen::{Refusal, gathering_of, refusal_of};
 use casper_model::Reply;
 use casper_trail::Mark;
 use casper_words::{Memory, Want, Who};
@@ -66,6 +69,49 @@ impl Hub {
                 unrecorded,
             });
         }
+        if gathering_of(&self.unended, &self.associations, who).is_some() {
+            self.acquire_gathering(who, cache, wants, calls)
+        } else {
+            self.acquire_apart(who, cache, wants, calls)
+        }
+    }
+
+    /// Makes the turn of an acquire of a client whose association is not gathering.
+    fn acquire_apart(
+        &mut self,
+        who: Who,
+        cache: &mut Cache,
+        wants: &[Want],
+        calls: u32,
+    ) -> Result<Reply, Memory>
+        requires client { cache.old.client ≡ who }
+        requires owns { Owns self.old cache.old }
+        requires wants { AreWants wants.now }
+        requires range { (want : AWant) → Contains wants.now want
+            → want.page < page_count self.old }
+        requires some { 1 ≤ calls }
+        requires few { calls ≤ 4096 }
+        requires up { fallen_in self.old who ≡ None }
+        requires apart { gathering_in self.old who ≡ None }
+        ensures turn { IfOk result
+            (λ reply. Acquires self.old cache.old wants.now calls reply self.new cache.new) }
+        ensures memory { OnErr result (self.new ≡ self.old) }
+        ensures cache_stays { OnErr result (cache.new ≡ cache.old) }
+        ensures owned { Owns self.new cache.new }
+        ensures client_after { cache.new.client ≡ who }
+        ensures frames { (base : List (List ℕ)) → FramesAreRight base self.old
+            → CacheIsRight base self.old cache.old → FramesAreRight base self.new }
+        ensures words { (base : List (List ℕ)) → FramesAreRight base self.old
+            → CacheIsRight base self.old cache.old → CacheIsRight base self.new cache.new }
+        ensures others { (other : ℕ) → other ≢ who → KeepsClient other self.old self.new }
+        ensures still { CommitsNothing self.old self.new }
+        ensures sound { IsSound self.new }
+    {
+        let _mark: Option<Mark> = None;
+        if let Some(refusal) = self.refusal(who, wants) {
+            self.refuse(who, cache, FewWants::none())?;
+            return Ok(refusal.reply());
+        }
         let pending = cache.pending().as_slice().len() as u32;
         let free = free_room(&self.trail, self.limit, &self.clients);
         let cap = MOST_CAP.min(self.clients.cap(who) - pending + free);
@@ -89,6 +135,70 @@ impl Hub {
         }
     }
 
+    /// What an acquire of a client whose association is not gathering is refused with at once: its association, or that of a missing page,
+    /// is frozen or in doubt.
+    fn refusal(&self, who: Who, wants: &[Want]) -> Option<Refusal>
+        requires few { length wants.now ≤ 4 }
+        requires range { (want : AWant) → Contains wants.now want
+            → want.page < page_count self.now }
+        ensures { option_map reply_of result ≡ refused_at_once (part_of self.now) who
+            (missing_in self.now.pages self.now.clients who wants.now) }
+    {
+        if self.unended.each().is_empty() {
+            return None;
+        }
+        let missing = missing_of(&self.pages, &self.clients, who, wants);
+        refusal_of(&self.unended, &self.associations, who, missing.as_slice())
+    }
+
+    /// Makes the turn of an acquire of a member of a gathering association. The member hands in, and what it then lacks is frozen or in
+    /// doubt.
+    fn acquire_gathering(
+        &mut self,
+        who: Who,
+        cache: &mut Cache,
+        wants: &[Want],
+        calls: u32,
+    ) -> Result<Reply, Memory>
+        requires client { cache.old.client ≡ who }
+        requires owns { Owns self.old cache.old }
+        requires wants { AreWants wants.now }
+        requires range { (want : AWant) → Contains wants.now want
+            → want.page < page_count self.old }
+        requires some { 1 ≤ calls }
+        requires few { calls ≤ 4096 }
+        requires up { fallen_in self.old who ≡ None }
+        requires gathers { IsSome (gathering_in self.old who) }
+        ensures turn { IfOk result
+            (λ reply. Acquires self.old cache.old wants.now calls reply self.new cache.new) }
+        ensures memory { OnErr result (self.new ≡ self.old) }
+        ensures cache_stays { OnErr result (cache.new ≡ cache.old) }
+        ensures owned { Owns self.new cache.new }
+        ensures client_after { cache.new.client ≡ who }
+        ensures frames { (base : List (List ℕ)) → FramesAreRight base self.old
+            → CacheIsRight base self.old cache.old → FramesAreRight base self.new }
+        ensures words { (base : List (List ℕ)) → FramesAreRight base self.old
+            → CacheIsRight base self.old cache.old → CacheIsRight base self.new cache.new }
+        ensures others { (other : ℕ) → other ≢ who → KeepsClient other self.old self.new }
+        ensures still { CommitsNothing self.old self.new }
+        ensures sound { IsSound self.new }
+    {
+        let _mark: Option<Mark> = None;
+        // So that the proof knows that the hub is sound.
+        let _limit = self.limit;
+        self.refuse(who, cache, FewWants::none())?;
+        let missing = lacking(cache, wants);
+        let refusal = refusal_of(&self.unended, &self.associations, who, missing.as_slice());
+        if let Some(refusal) = refusal {
+            return Ok(refusal.reply());
+        }
+        if self.clients.cap(who) < calls {
+            return Ok(Reply::TrailFull(self.trail.entries()));
+        }
+        bring_to_front(cache, wants);
+        Ok(Reply::Granted)
+    }
+
     /// Opens the turn of an acquire that is refused, and keeps what is asked for.
     fn refuse(&mut self, who: Who, cache: &mut Cache, asks: FewWants) -> Result<(), Memory>
         requires client { cache.old.client ≡ who }
@@ -104,6 +214,8 @@ impl Hub {
             cache.new) }
         ensures trail { OnOk result (self.new.trail
             ≡ self.old.trail ++ as_items (entries_by who cache.old.pending)) }
+        ensures stays_up { OnOk result (fallen_in self.new who ≡ None) }
+        ensures count { OnOk result (page_count self.new ≡ page_count self.old) }
         ensures memory { OnErr result (self.new ≡ self.old) }
         ensures cache_stays { OnErr result (cache.new ≡ cache.old) }
         ensures owned { Owns self.new cache.new }
@@ -119,9 +231,10 @@ impl Hub {
         let _mark: Option<Mark> = None;
         self.trail
             .reserve(cache.pending().as_slice().len() as u32 + SPARE_MARKS)?;
-        open(
+        open_turn(
             &mut self.trail,
             &mut self.associations,
+            &mut self.unended,
             self.limit,
             &mut self.clients,
             &mut self.pages,
@@ -146,6 +259,9 @@ impl Hub {
         requires range { (want : AWant) → Contains wants.now want
             → want.page < page_count self.old }
         requires up { fallen_in self.old who ≡ None }
+        requires apart { gathering_in self.old who ≡ None }
+        requires free { refused_at_once (part_of self.old) who
+            (missing_in self.old.pages self.old.clients who wants.now) ≡ None }
         requires grants { CanGrant who self.old cache.old wants.now missing.now }
         ensures turn { OnOk result ((calls : ℕ)
             → length missing.now + calls ≤ topped cache.old (free_in self.old)
@@ -171,6 +287,7 @@ impl Hub {
         open(
             &mut self.trail,
             &mut self.associations,
+            &self.unended,
             self.limit,
             &mut self.clients,
             &mut self.pages,
@@ -187,4 +304,18 @@ impl Hub {
         shrink(&mut self.pages, who, cache);
         Ok(())
     }
+}
+
+/// The wants that a cache does not hold with at least their right.
+fn lacking(cache: &Cache, wants: &[Want]) -> FewWants
+    requires { length wants.now ≤ 4 }
+    ensures { result ≡ lacking_in cache.now.held wants.now }
+{
+    let mut lacking = FewWants::none();
+    for want in wants {
+        if !permits(cache.right(want.page), want.right) {
+            lacking.push(*want);
+        }
+    }
+    lacking
 }

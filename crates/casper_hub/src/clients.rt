@@ -2,11 +2,13 @@ ghost use Rattle.std.specs.Prelude.{◌≡◌, ◌&&◌, ◌+◌, ◌≤◌, ◌
 ghost use Rattle.casper_words.specs.Crew.{crew_of};
 ghost use Rattle.casper_model.specs.Held.{is_to_write, is_of};
 ghost use Rattle.casper_model.specs.Opening.{any_right};
-ghost use Rattle.casper_hub.specs.HubView.{ClientView, new_client_view, place_in, cap_of, asks_of, fall_of, caps_of, with_cap, with_asks, risen, felled};
+ghost use Rattle.casper_hub.specs.HubView.{ClientView, new_client_view, place_in, cap_of, asks_of, fall_of, caps_of, with_cap, begun_with, with_kept, with_asks, risen, felled};
 ghost use Rattle.casper_hub.specs.Places.{shown_fall};
+ghost use Rattle.casper_hub.specs.Stabilising.{kept_of};
 ghost use Rattle.casper_hub.specs.Asks.{are_for as are_among, asks_for};
 
 use crate::few::FewWants;
+use casper_model::Kept;
 use casper_words::{Crew, Memory, Page, Right, Want, Who};
 use std::alloc::Global;
 use std::marker::Model;
@@ -18,11 +20,13 @@ pub(crate) struct Fall {
     pub(crate) dropped: u32,
 }
 
-/// What is known of a live client: how many more entries may be recorded for it, its asks, and its fall, if it is fallen.
+/// What is known of a live client: how many more entries may be recorded for it, its asks, the outcome that is kept for it, and its
+/// fall, if it is fallen.
 #[derive(Drop)]
 pub(crate) struct Place {
     cap: u32,
     asks: FewWants,
+    kept: Option<Kept>,
     fall: Option<Fall>,
 }
 
@@ -106,6 +110,7 @@ impl Clients {
         self.places[who.number() as usize] = Some(Place {
             cap,
             asks,
+            kept: None,
             fall: None,
         });
     }
@@ -124,6 +129,27 @@ impl Clients {
         let place = &mut self.places[who.number() as usize];
         if let Some(client) = place {
             client.cap = cap;
+        }
+    }
+
+    /// Promises so many entries to a client, if it is live, as its turn begins. An outcome that was kept for it is dropped.
+    pub(crate) fn begin(&mut self, who: Who, cap: u32)
+        ensures { self.new ≡ slice_set self.old who (begun_with cap (place_in self.old who)) }
+    {
+        let place = &mut self.places[who.number() as usize];
+        if let Some(client) = place {
+            client.cap = cap;
+            client.kept = None;
+        }
+    }
+
+    /// Keeps an outcome for a client, if it is live.
+    pub(crate) fn keep(&mut self, who: Who, kept: Kept)
+        ensures { self.new ≡ slice_set self.old who (with_kept kept (place_in self.old who)) }
+    {
+        let place = &mut self.places[who.number() as usize];
+        if let Some(client) = place {
+            client.kept = Some(kept);
         }
     }
 
@@ -147,12 +173,23 @@ impl Clients {
         }
     }
 
-    /// Notes that a client, if it is live, was told of its fall.
+    /// The outcome that is kept for a client.
+    pub(crate) fn kept(&self, who: Who) -> Option<Kept>
+        ensures { result ≡ kept_of (place_in self.now who) }
+    {
+        match &self.places[who.number() as usize] {
+            Some(place) => place.kept,
+            None => None,
+        }
+    }
+
+    /// Notes that a client, if it is live, was told of its fall. An outcome that was kept for it is dropped.
     pub(crate) fn rise(&mut self, who: Who)
         ensures { self.new ≡ slice_set self.old who (risen (place_in self.old who)) }
     {
         let place = &mut self.places[who.number() as usize];
         if let Some(client) = place {
+            client.kept = None;
             client.fall = None;
         }
     }

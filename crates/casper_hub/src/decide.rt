@@ -68,7 +68,8 @@ fn right_kept(pages: &Pages, clients: &Clients, who: Who, page: Page) -> Option<
     Some(right)
 }
 
-fn permits(right: Option<Right>, wanted: Right) -> bool
+/// Whether a right, where there is one, allows what is wanted.
+pub(crate) fn permits(right: Option<Right>, wanted: Right) -> bool
     ensures { result ≡ does_permit right wanted }
 {
     match right {
@@ -79,7 +80,7 @@ fn permits(right: Option<Right>, wanted: Right) -> bool
 }
 
 /// The wants that a client will not hold with at least their right.
-fn missing_of(pages: &Pages, clients: &Clients, who: Who, wants: &[Want]) -> FewWants
+pub(crate) fn missing_of(pages: &Pages, clients: &Clients, who: Who, wants: &[Want]) -> FewWants
     requires few { length wants.now ≤ 4 }
     requires range { (want : AWant) → Contains wants.now want
         → want.page < length pages.now.rights }

@@ -13,6 +13,7 @@ use crate::clients::Clients;
 use crate::opening::{MOST_CAP, SPARE_MARKS, free_room};
 use crate::pages::Pages;
 use casper_assoc::Associations;
+use casper_gather::Unended;
 use casper_model::JoinRefusal;
 use casper_trail::{Mark, Trail};
 use casper_words::{Frame, Memory, Page, Who};
@@ -27,6 +28,7 @@ pub struct Hub {
     pub(crate) limit: u32,
     pub(crate) clients: Clients,
     pub(crate) associations: Associations,
+    pub(crate) unended: Unended,
     pub(crate) pages: Pages,
 }
 
@@ -36,15 +38,15 @@ impl Model for Hub {
 
     ghost Value = { HubView };
 
+    ghost use Rattle.casper_gather.specs.UnendedLaws.{stabilisations_of};
     ghost use Rattle.casper_hub.specs.HubFields.{hub_of};
-    ghost use Rattle.casper_hub.specs.Sound.{IsSound, IsPlain};
+    ghost use Rattle.casper_hub.specs.Sound.{IsSound};
     ghost use Rattle.casper_hub.specs.Keeping.{IsKeptUp};
 
-    ghost view = { λ hub. hub_of hub.trail.items hub.limit hub.clients hub.pages };
+    ghost view = { λ hub. hub_of hub.trail.items hub.limit (stabilisations_of hub.unended.each) hub.clients hub.pages };
 
-    ghost invariant = { λ hub. IsSound (hub_of hub.trail.items hub.limit hub.clients hub.pages)
-        × IsPlain (hub_of hub.trail.items hub.limit hub.clients hub.pages)
-        × IsKeptUp hub.trail hub.limit hub.associations hub.clients hub.pages };
+    ghost invariant = { λ hub. IsSound (hub_of hub.trail.items hub.limit (stabilisations_of hub.unended.each) hub.clients hub.pages)
+        × IsKeptUp hub.trail hub.limit hub.associations hub.clients hub.unended.each hub.pages };
 }
 
 impl Hub {
@@ -66,6 +68,7 @@ impl Hub {
             limit,
             clients,
             associations,
+            unended: Unended::new(alloc),
             pages,
         })
     }

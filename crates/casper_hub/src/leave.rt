@@ -9,7 +9,7 @@ ghost use Rattle.casper_hub.specs.Turns.{IsTurn};
 
 use crate::Hub;
 use crate::install::give_up_all;
-use crate::opening::{SPARE_MARKS, open};
+use crate::opening::{SPARE_MARKS, open_turn};
 use casper_cache::Cache;
 use casper_model::Served;
 use casper_trail::Mark;
@@ -46,9 +46,10 @@ impl Hub {
         }
         self.trail
             .reserve(cache.pending().as_slice().len() as u32 + SPARE_MARKS)?;
-        open(
+        open_turn(
             &mut self.trail,
             &mut self.associations,
+            &mut self.unended,
             self.limit,
             &mut self.clients,
             &mut self.pages,
@@ -91,9 +92,10 @@ impl Hub {
         }
         self.trail
             .reserve(cache.pending().as_slice().len() as u32 + SPARE_MARKS)?;
-        open(
+        open_turn(
             &mut self.trail,
             &mut self.associations,
+            &mut self.unended,
             self.limit,
             &mut self.clients,
             &mut self.pages,
@@ -102,6 +104,7 @@ impl Hub {
         );
         give_up_all(&mut self.pages, who, cache);
         self.clients.leave(who);
+        self.unended.forget(who);
         cache.allow(0);
         Ok(Served::Ok)
     }

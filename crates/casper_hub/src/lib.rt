@@ -5,6 +5,8 @@ mod acquire;
 mod clients;
 mod decide;
 mod few;
+mod finish;
+mod hand_in;
 mod hub;
 mod install;
 mod laws;
@@ -12,6 +14,7 @@ mod leave;
 mod lose;
 mod opening;
 mod pages;
+mod stabilise;
 mod tell;
 
 pub use hub::Hub;

@@ -1,11 +1,12 @@
-ghost use Rattle.std.specs.Prelude.{◌≡◌, ◌≢◌, ◌==◌, ℕ, List, true, false, None, [], length, slice_set, if◌then◌else◌};
+ghost use Rattle.std.specs.Prelude.{◌≡◌, ◌≢◌, ◌==◌, ℕ, List, true, false, None, [], length, if◌then◌else◌};
 ghost use Rattle.casper_assoc.specs.Labelling.{is_writer, writer_of};
 ghost use Rattle.casper_assoc.specs.TrailAssociations.{open_calls_of, pages_in};
 ghost use Rattle.casper_model.specs.Leave.{vanish as machine_vanish};
-ghost use Rattle.casper_model.specs.Loss.{lose as machine_lose};
+ghost use Rattle.casper_model.specs.Loss.{lose as machine_lose, loss_of};
 ghost use Rattle.casper_hub.specs.HubView.{is_live as is_live_in, fallen_in, place_in, frame_in, felled};
+ghost use Rattle.casper_hub.specs.Losing.{BecomesAbsent, IsHeldOf, MayWriteNothing};
 ghost use Rattle.casper_hub.specs.Owned.{Owns};
-ghost use Rattle.casper_hub.specs.RollingBack.{RollsBack};
+ghost use Rattle.casper_hub.specs.RollingBack.{RollsBack, is_mark_due};
 ghost use Rattle.casper_hub.specs.Sound.{IsSound};
 ghost use Rattle.casper_hub.specs.Felling.{is_among};
 ghost use Rattle.casper_hub.specs.GoesOn.{KeepsClient, CommitsNothing};
@@ -17,13 +18,17 @@ use crate::clients::{Clients, Fall};
 use crate::pages::Pages;
 use casper_assoc::Associations;
 use casper_cache::Cache;
+use casper_frozen::member_of;
+use casper_gather::{Phase, Stab, Unended};
 use casper_model::Loss;
 use casper_trail::Mark;
 use casper_words::{Crew, Who};
 
 impl Hub {
-    /// A live client is declared lost by another: its association is rolled back, and each live member falls, that client too. Already
-    /// where it had fallen; then nothing has changed. It takes no memory, and a time that the length of the trail doesn't change.
+    /// A live client is declared lost by another: its association is rolled back, and each live member falls, that client too. Where the
+    /// association is sealed, written or in doubt, the loss is noted instead, for the end of that stabilisation, and nobody falls.
+    /// Already where the client had fallen; then nothing has changed. It takes no memory, and a time that the length of the trail
+    /// doesn't change.
     pub fn lose(&mut self, who: Who) -> Loss
         requires live { is_live_in self.old who ≡ true }
         ensures turn { IsChange (λ shared. machine_lose shared who) result self.old self.new }
@@ -36,15 +41,12 @@ impl Hub {
         if let Some(fall) = self.clients.fall(who) {
             return Loss::Already { mark: fall.mark };
         }
-        let mark = self.roll_back(who);
-        Loss::Lost {
-            mark,
-            unrecorded: 0,
-        }
+        self.lose_now(who, 0)
     }
 
-    /// A live client vanishes, with its pages and its pending calls: its association is rolled back, and the client is absent. Where it
-    /// had fallen its mark stands. It takes no memory, and a time that the length of the trail doesn't change.
+    /// A live client vanishes, with its pages and its pending calls: its association is rolled back, and the client is absent. Where the
+    /// association is sealed, written or in doubt, the loss is noted instead, for the end of that stabilisation, and nobody else falls.
+    /// Where the client had fallen its mark stands. It takes no memory, and a time that the length of the trail doesn't change.
     pub fn vanish(&mut self, who: Who, cache: &mut Cache) -> Loss
         requires client { cache.old.client ≡ who }
         requires owns { Owns self.old cache.old }
@@ -59,20 +61,47 @@ impl Hub {
     {
         let unrecorded = cache.pending().as_slice().len() as u32;
         if let Some(fall) = self.clients.fall(who) {
-            make_absent(&mut self.clients, who, cache);
+            self.make_absent(who);
+            empty(cache);
             return Loss::Lost {
                 mark: fall.mark,
                 unrecorded,
             };
         }
+        let loss = self.lose_now(who, unrecorded);
+        self.make_absent(who);
+        empty(cache);
+        loss
+    }
+
+    /// The loss of a live client that has not fallen, with so many unrecorded calls: noted where its association is sealed, written or in
+    /// doubt. Else its association is rolled back.
+    fn lose_now(&mut self, who: Who, unrecorded: u32) -> Loss
+        requires live { is_live_in self.old who ≡ true }
+        requires up { fallen_in self.old who ≡ None }
+        ensures turn { IsChange (λ shared. loss_of shared who unrecorded) result self.old self.new }
+        ensures unwritten { MayWriteNothing self.new who }
+        ensures frames { (base : List (List ℕ)) → FramesAreRight base self.old
+            → FramesAreRight base self.new }
+        ensures sound { IsSound self.new }
+    {
+        if let Some(held) = held_of(&self.unended, &self.associations, who) {
+            let mut noting = held;
+            noting.note(who);
+            self.unended.change(noting);
+            return Loss::Noted {
+                lead: held.lead,
+                unrecorded,
+            };
+        }
         let mark = self.roll_back(who);
-        make_absent(&mut self.clients, who, cache);
         Loss::Lost { mark, unrecorded }
     }
 
-    /// Rolls the association of a live client back that has not fallen, and gives the place of the mark.
-    fn roll_back(&mut self, lost: Who) -> u64
-        requires live { is_live_in self.old lost ≡ true }
+    /// Rolls the association of a client back that has not fallen, and gives the place of the mark. A client that is not live was lost
+    /// before, while its association was made stable.
+    pub(crate) fn roll_back(&mut self, lost: Who) -> u64
+        requires due { is_mark_due lost self.old ≡ true }
         requires up { fallen_in self.old lost ≡ None }
         ensures mark { result ≡ length self.old.trail }
         ensures rolls { RollsBack lost self.old self.new }
@@ -84,16 +113,35 @@ impl Hub {
         self.pages.revoke(members);
         forget_written(&mut self.pages, &self.associations, members);
         self.associations.dissolve(lost);
+        self.unended.end(members);
         self.trail.mark(Mark::Rollback { lost, members })
+    }
+
+    /// Makes a client absent, with no right and waiting for no outcome. It goes over the pages once.
+    fn make_absent(&mut self, who: Who)
+        ensures absent { BecomesAbsent who self.old self.new }
+        ensures sound { IsSound self.new }
+    {
+        self.clients.leave(who);
+        self.unended.forget(who);
+        self.pages.revoke(Crew::none().with(who));
     }
 }
 
-/// Makes a client absent, and empties its cache.
-fn make_absent(clients: &mut Clients, who: Who, cache: &mut Cache)
-    ensures clients { clients.new ≡ slice_set clients.old who None }
-    ensures cache { cache.new ≡ record cache.old { pending = []; held = []; cap = 0 } }
+/// The stabilisation that a client is a member of, where all of its members have handed in their pages.
+fn held_of(unended: &Unended, associations: &Associations, who: Who) -> Option<Stab>
+    ensures held { IsHeldOf unended.now associations.now who result }
 {
-    clients.leave(who);
+    match member_of(unended, associations, who) {
+        Some(one) if one.phase != Phase::Gathering => Some(one),
+        _ => None,
+    }
+}
+
+/// Empties the cache of a client that is absent.
+fn empty(cache: &mut Cache)
+    ensures { cache.new ≡ record cache.old { pending = []; held = []; cap = 0 } }
+{
     cache.clear();
     cache.allow(0);
 }
@@ -117,7 +165,7 @@ fn fell_each(clients: &mut Clients, associations: &Associations, members: Crew, 
 }
 
 /// Drops the server's frames of the pages that these clients wrote.
-fn forget_written(pages: &mut Pages, associations: &Associations, members: Crew)
+pub(crate) fn forget_written(pages: &mut Pages, associations: &Associations, members: Crew)
     requires { pages_in associations.now ≡ length pages.old.rights }
     ensures rights { pages.new.rights ≡ pages.old.rights }
     ensures count { length pages.new.frames ≡ length pages.old.frames }

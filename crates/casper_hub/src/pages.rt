@@ -3,7 +3,7 @@ ghost use Rattle.std.specs.Option.{option_copied};
 ghost use Rattle.casper_words.specs.Crew.{IsClient};
 ghost use Rattle.casper_dir.specs.Holding.{raised};
 ghost use Rattle.casper_assoc.specs.Written.{is_listed};
-ghost use Rattle.casper_dir.specs.Rights.{right_at, writer_at, conflicts_at, ChangesOneRight, RevokesRights, AreAllClients};
+ghost use Rattle.casper_dir.specs.Rights.{right_at, writer_at, conflicts_at, writers_in, ChangesOneRight, RevokesRights, AreAllClients};
 ghost use Rattle.casper_cache.specs.Holding.{right_of, words_of, others, lowered};
 ghost use Rattle.casper_hub.specs.HubView.{PagesView, frame_in};
 ghost use Rattle.casper_hub.specs.Given.{handed_in, Covers};
@@ -85,6 +85,14 @@ impl Pages {
         ensures { result ≡ conflicts_at self.now.rights want.page who want.right }
     {
         self.directory.conflicts(want.page, who, want.right)
+    }
+
+    /// The clients that hold some page for writing. It goes over the pages once.
+    pub(crate) fn writers(&self) -> Crew
+        ensures writers { result ≡ writers_in self.now.rights }
+        ensures holders { AreAllClients self.now.rights }
+    {
+        self.directory.writers()
     }
 
     /// Another frame with the words of the one that the server has of a page.

@@ -1,4 +1,4 @@
-use Rattle.std.proofs.Common.{◌≡◌, ◌+◌, ℕ, List, Option, None, false, true, cond, length, refl, sym, ap, ◌∙◌, subst, arith}
+use Rattle.std.proofs.Common.{◌≡◌, ℕ, None, false, true, cond, length, refl, sym, ap, ◌∙◌, subst, arith}
 use Rattle.casper_assoc.specs.Labelling.{is_writer, writer_of}
 use Rattle.casper_hub.specs.Felling.{is_among}
 use Rattle.casper_hub.specs.HubView.{frame_in}

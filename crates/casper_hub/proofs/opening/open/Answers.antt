@@ -13,13 +13,14 @@ use Rattle.casper_hub.proofs.Recorded.{asks_beside_cap, opens_recorded, own_give
 use Rattle.casper_hub.specs.HubFields.{hub_of}
 use Rattle.casper_hub.proofs.Whole.{within_sound, cap_within, cap_fits, pending_within}
 use Rattle.casper_hub.proofs.opening.open.Goals as goal
+use Rattle.casper_gather.specs.UnendedLaws.{stabilisations_of}
 
 pub free_room-free-requires : goal.free_room-free-requires
-free_room-free-requires c = within_sound (hub_of c.args.trail.now.items c.args.limit c.args.clients.now c.args.pages.now) c.requires.sound
+free_room-free-requires c = within_sound (hub_of c.args.trail.now.items c.args.limit (stabilisations_of c.args.unended.now.each) c.args.clients.now c.args.pages.now) c.requires.sound
 
 pub record-requires-clause-limit : goal.record-requires-clause-limit
 record-requires-clause-limit c =
-    let within = cap_within (hub_of c.args.trail.now.items c.args.limit c.args.clients.now c.args.pages.now) c.args.who c.requires.covers.client c.requires.sound in
+    let within = cap_within (hub_of c.args.trail.now.items c.args.limit (stabilisations_of c.args.unended.now.each) c.args.clients.now c.args.pages.now) c.args.who c.requires.covers.client c.requires.sound in
     let pending = pending_within c.args.cache.now c.requires.own in
     let cap = c.requires.cap in
     let limit = c.requires.limit in
@@ -27,7 +28,7 @@ record-requires-clause-limit c =
 
 pub record-requires-clause-fits : goal.record-requires-clause-fits
 record-requires-clause-fits c =
-    let fits = cap_fits (hub_of c.args.trail.now.items c.args.limit c.args.clients.now c.args.pages.now) c.args.who c.requires.covers.client c.requires.sound in
+    let fits = cap_fits (hub_of c.args.trail.now.items c.args.limit (stabilisations_of c.args.unended.now.each) c.args.clients.now c.args.pages.now) c.args.who c.requires.covers.client c.requires.sound in
     let cap = c.requires.cap in
     let free = c.free_room-free.ensures in
     omega (arith, fits, cap, free)
@@ -45,7 +46,7 @@ returns-clause-opens c =
     let most = c.requires.covers.client.1 in
     let long = c.requires.sound.formed.places in
     let within : c.args.who < length c.args.clients.now = omega arith in
-    opens_recorded c.args.who c.args.limit c.free_room-free.result c.args.trail.now.items c.record.new.trail.items c.args.clients.now c.record.new.clients
+    opens_recorded c.args.who c.args.limit (stabilisations_of c.args.unended.now.each) c.free_room-free.result c.args.trail.now.items c.record.new.trail.items c.args.clients.now c.record.new.clients
     c.args.pages.now c.meet_all.new.pages c.args.cache.now c.record.new.cache c.meet_all.new.cache within c.free_room-free.ensures
     c.record.ensures.trail c.record.ensures.clients c.record.ensures.cache c.meet_all.ensures.rest c.meet_all.ensures.meets
 
@@ -61,7 +62,7 @@ record-requires-clause-within c call inside = subst (λ (n : ℕ). call.page < n
 
 pub record-requires-clause-count : goal.record-requires-clause-count
 record-requires-clause-count c =
-    let within = cap_within (hub_of c.args.trail.now.items c.args.limit c.args.clients.now c.args.pages.now) c.args.who c.requires.covers.client c.requires.sound in
+    let within = cap_within (hub_of c.args.trail.now.items c.args.limit (stabilisations_of c.args.unended.now.each) c.args.clients.now c.args.pages.now) c.args.who c.requires.covers.client c.requires.sound in
     let pending = pending_within c.args.cache.now c.requires.own in
     let cap = c.requires.cap in
     let fits : c.args.limit < 2 ^ 32 = c.requires.sound.formed.fits in
@@ -73,12 +74,12 @@ pub returns-clause-associations : goal.returns-clause-associations
 returns-clause-associations c =
     subst (λ (items : List Item). AreAssociationsOf c.record.new.associations items) (sym c.record.ensures.trail)
     (c.record.ensures.associations c.args.trail.now.items
-    (clients_recorded (hub_of c.args.trail.now.items c.args.limit c.args.clients.now c.args.pages.now) c.requires.sound.stands)
+    (clients_recorded (hub_of c.args.trail.now.items c.args.limit (stabilisations_of c.args.unended.now.each) c.args.clients.now c.args.pages.now) c.requires.sound.stands)
     c.requires.kept c.requires.calls.writers)
 
 pub returns-clause-clients : goal.returns-clause-clients
 returns-clause-clients c =
     subst AreOfClients (sym c.record.ensures.trail)
     (clients_of_more c.args.trail.now.items (as_items (entries_by c.args.who c.args.cache.now.pending))
-    (clients_recorded (hub_of c.args.trail.now.items c.args.limit c.args.clients.now c.args.pages.now) c.requires.sound.stands)
+    (clients_recorded (hub_of c.args.trail.now.items c.args.limit (stabilisations_of c.args.unended.now.each) c.args.clients.now c.args.pages.now) c.requires.sound.stands)
     (clients_of_calls c.args.who c.args.cache.now.pending c.requires.covers.client))

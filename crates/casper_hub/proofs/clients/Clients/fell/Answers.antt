@@ -13,9 +13,9 @@ returns c =
     let read : Option Place = c.index_mut-place.result.now in
     elim c.match-place.branch [
       | in-Some w ↦
-          let next : Option Place = Some (record { cap = w.in-Some.client.cap; asks = w.none-client.result; fall = Some c.args.fall }) in
+          let next : Option Place = Some (record { cap = w.in-Some.client.cap; asks = w.none-client.result; kept = w.in-Some.client.kept; fall = Some c.args.fall }) in
           let same : shown_place next ≡ change (shown_place read) =
-          ap (λ asks. Some (record { cap = w.in-Some.client.cap; asks = asks; kept = None; fallen = Some (shown_fall c.args.fall) })) w.none-client.ensures
+          ap (λ asks. Some (record { cap = w.in-Some.client.cap; asks = asks; kept = w.in-Some.client.kept; fallen = Some (shown_fall c.args.fall) })) w.none-client.ensures
           ∙ ap (λ (o : Option Place). change (shown_place o)) (sym w.in-Some.is) in
           ap (λ inside. map shown_place inside.places.items) w.self-inside-is
           ∙ shown_changed c.self.inside.places.items c.args.self.now c.number.result c.args.who read next change

@@ -13,7 +13,7 @@ returns c =
     let read : Option Place = c.index_mut-place.result.now in
     elim c.match-place.branch [
       | in-Some w ↦
-          let next : Option Place = Some (record { cap = c.args.cap; asks = w.in-Some.client.asks; fall = w.in-Some.client.fall }) in
+          let next : Option Place = Some (record { cap = c.args.cap; asks = w.in-Some.client.asks; kept = w.in-Some.client.kept; fall = w.in-Some.client.fall }) in
           let same : shown_place next ≡ change (shown_place read) = ap (λ (o : Option Place). change (shown_place o)) (sym w.in-Some.is) in
           ap (λ inside. map shown_place inside.places.items) w.self-inside-is
           ∙ shown_changed c.self.inside.places.items c.args.self.now c.number.result c.args.who read next change

@@ -29,10 +29,10 @@ use Rattle.casper_hub.specs.Turns.{IsTurn, Acquires}
 use Rattle.casper_hub.proofs.ForClient.{cap_for, kept_reserved, nothing_reserved}
 use Rattle.casper_hub.proofs.AcquiredHere.{nobody_blocks, room_for}
 use Rattle.casper_hub.proofs.GrantedTurns.{grant_turn}
-use Rattle.casper_hub.proofs.Granting.{Granting, opened_is_sound, granted_formed, granted_plain, live_granted, granted_cache, granted_few, granted_frames, granted_words}
+use Rattle.casper_hub.proofs.Granting.{Granting, opened_is_sound, granted_formed, live_granted, granted_cache, granted_few, granted_frames, granted_words}
 use Rattle.casper_hub.proofs.MissingStays.{granted_held_is}
 use Rattle.casper_hub.proofs.Transport.{kept_by, stands_behind, keeps_others, keeps_still, owns_behind}
-use Rattle.casper_hub.proofs.Whole.{whole, owning}
+use Rattle.casper_hub.proofs.Whole.{whole}
 use Rattle.std.specs.Prelude.{None}
 use Rattle.casper_trail.specs.declared.item.Item.{Item}
 use Rattle.casper_assoc.specs.TrailAssociations.{AreAssociationsOf}
@@ -50,36 +50,40 @@ use Rattle.casper_hub.specs.HubView.{place_in, with_asks}
 use Rattle.casper_hub.proofs.Grants.{Made, granting_made, fronted_held, room_ready, cap_ready}
 use Rattle.casper_trail.specs.TrailView.{entry_count}
 use Rattle.casper_hub.proofs.Ready.{Ready, GivesRights, ready_for, installed_sound, missing_held, missing_free, wanted_held, covers_given, rights_given}
+use Rattle.casper_gather.specs.UnendedLaws.{stabilisations_of}
+use Rattle.casper_frozen.specs.Refused.{refused_at_once}
+use Rattle.casper_hub.specs.Deciding.{missing_in}
+use Rattle.casper_hub.specs.Stages.{gathering_in, part_of}
 
 pub returns-in_err-reserve-clause-others : goal.returns-in_err-reserve-clause-others
 returns-in_err-reserve-clause-others c other differ =
-    kept_reserved c.args.self.now c.self.inside.limit c.reserve.new.self.items c.self.inside.trail.items c.self.inside.clients c.self.inside.pages c.self.view_is c.reserve.ensures.items other
+    kept_reserved c.args.self.now c.self.inside.limit (stabilisations_of c.self.inside.unended.each) c.reserve.new.self.items c.self.inside.trail.items c.self.inside.clients c.self.inside.pages c.self.view_is c.reserve.ensures.items other
 
 pub returns-in_err-reserve-clause-still : goal.returns-in_err-reserve-clause-still
 returns-in_err-reserve-clause-still c =
-    nothing_reserved c.args.self.now c.self.inside.limit c.reserve.new.self.items c.self.inside.trail.items c.self.inside.clients c.self.inside.pages c.self.view_is c.reserve.ensures.items
+    nothing_reserved c.args.self.now c.self.inside.limit (stabilisations_of c.self.inside.unended.each) c.reserve.new.self.items c.self.inside.trail.items c.self.inside.clients c.self.inside.pages c.self.view_is c.reserve.ensures.items
 
 pub returns-in_err-install-clause-others : goal.returns-in_err-install-clause-others
 returns-in_err-install-clause-others c other differ =
-    kept_reserved c.args.self.now c.self.inside.limit c.reserve.new.self.items c.self.inside.trail.items c.self.inside.clients c.self.inside.pages c.self.view_is c.reserve.ensures.items other
+    kept_reserved c.args.self.now c.self.inside.limit (stabilisations_of c.self.inside.unended.each) c.reserve.new.self.items c.self.inside.trail.items c.self.inside.clients c.self.inside.pages c.self.view_is c.reserve.ensures.items other
 
 pub returns-in_err-install-clause-still : goal.returns-in_err-install-clause-still
 returns-in_err-install-clause-still c =
-    nothing_reserved c.args.self.now c.self.inside.limit c.reserve.new.self.items c.self.inside.trail.items c.self.inside.clients c.self.inside.pages c.self.view_is c.reserve.ensures.items
+    nothing_reserved c.args.self.now c.self.inside.limit (stabilisations_of c.self.inside.unended.each) c.reserve.new.self.items c.self.inside.trail.items c.self.inside.clients c.self.inside.pages c.self.view_is c.reserve.ensures.items
 
 pub open-requires-clause-cap : goal.open-requires-clause-cap
 open-requires-clause-cap c =
-    cap_for c.args.who (hub_of c.self.inside.trail.items c.self.inside.limit c.self.inside.clients c.self.inside.pages) c.args.cache.now c.requires.client c.self.invariant.0
+    cap_for c.args.who (hub_of c.self.inside.trail.items c.self.inside.limit (stabilisations_of c.self.inside.unended.each) c.self.inside.clients c.self.inside.pages) c.args.cache.now c.requires.client c.self.invariant.0
     (subst (λ (h : HubView). Owns h c.args.cache.now) (sym c.self.view_is) c.requires.owns) (subst (λ (h : HubView). fallen_in h c.args.who ≡ None) (sym c.self.view_is) c.requires.up)
     ∙ sym (ap (λ (o : cache.Own). o.cap) c.in_ok-install.ensures.ok)
 
 pub grant-requires-clause-limit : goal.grant-requires-clause-limit
 grant-requires-clause-limit c =
-    subst (λ n. entry_count c.open.new.trail.items + length c.as_slice-missing.result.now ≤ n) (sym (c.open.ensures.limit ∙ c.reserve.ensures.limit ∙ c.self.invariant.2.limit))
-    (room_ready (hub_of c.self.inside.trail.items c.self.inside.limit c.self.inside.clients c.self.inside.pages) c.args.cache.now c.args.wants.now c.as_slice-missing.result.now (hub_of c.open.new.trail.items c.self.inside.limit c.open.new.clients c.open.new.pages) c.open.new.cache
-    (ready_for c.args.who c.self.inside.limit c.args.self.now c.args.cache.now c.install.new.cache c.open.new.cache c.args.wants.now c.args.missing.now c.as_slice-missing.result.now c.reserve.new.self.items c.self.inside.trail.items
-    c.self.inside.clients c.self.inside.pages (hub_of c.open.new.trail.items c.self.inside.limit c.open.new.clients c.open.new.pages)
-    c.self.view_is c.requires.client c.self.invariant.0 c.self.invariant.1 c.requires.owns c.requires.up c.requires.grants c.as_slice-missing.ensures.wants c.reserve.ensures.items c.in_ok-install.ensures.ok c.open.ensures.opens))
+    subst (λ n. entry_count c.open.new.trail.items + length c.as_slice-missing.result.now ≤ n) (sym (c.open.ensures.limit ∙ c.reserve.ensures.limit ∙ c.self.invariant.1.limit))
+    (room_ready (hub_of c.self.inside.trail.items c.self.inside.limit (stabilisations_of c.self.inside.unended.each) c.self.inside.clients c.self.inside.pages) c.args.cache.now c.args.wants.now c.as_slice-missing.result.now (hub_of c.open.new.trail.items c.self.inside.limit (stabilisations_of c.self.inside.unended.each) c.open.new.clients c.open.new.pages) c.open.new.cache
+    (ready_for c.args.who c.self.inside.limit (stabilisations_of c.self.inside.unended.each) c.args.self.now c.args.cache.now c.install.new.cache c.open.new.cache c.args.wants.now c.args.missing.now c.as_slice-missing.result.now c.reserve.new.self.items c.self.inside.trail.items
+    c.self.inside.clients c.self.inside.pages (hub_of c.open.new.trail.items c.self.inside.limit (stabilisations_of c.self.inside.unended.each) c.open.new.clients c.open.new.pages)
+    c.self.view_is c.requires.client c.self.invariant.0 c.requires.owns c.requires.up c.requires.grants c.as_slice-missing.ensures.wants c.reserve.ensures.items c.in_ok-install.ensures.ok c.open.ensures.opens))
 
 pub install-requires-clause-pages : goal.install-requires-clause-pages
 install-requires-clause-pages c want inside =
@@ -90,7 +94,7 @@ install-requires-clause-pages c want inside =
 
 pub install-requires-clause-framed : goal.install-requires-clause-framed
 install-requires-clause-framed c want inside =
-    missing_framed c.args.who (hub_of c.self.inside.trail.items c.self.inside.limit c.self.inside.clients c.self.inside.pages) c.args.cache.now c.args.wants.now c.args.missing.now
+    missing_framed c.args.who (hub_of c.self.inside.trail.items c.self.inside.limit (stabilisations_of c.self.inside.unended.each) c.self.inside.clients c.self.inside.pages) c.args.cache.now c.args.wants.now c.args.missing.now
     (subst (λ (h : HubView). CanGrant c.args.who h c.args.cache.now c.args.wants.now c.args.missing.now) (sym c.self.view_is) c.requires.grants) want
     (subst (λ (l : List Want). Contains l want) c.as_slice-missing.ensures.wants inside)
 
@@ -98,9 +102,9 @@ pub open-requires-clause-covers : goal.open-requires-clause-covers
 open-requires-clause-covers c =
     subst (λ (own : cache.Own). Covers c.args.who c.self.inside.pages own.held) (sym c.in_ok-install.ensures.ok)
     (subst (λ who. Covers who c.self.inside.pages (with_pages c.self.inside.pages c.args.cache.now.held c.as_slice-missing.result.now)) c.requires.client
-    (begins_installed (hub_of c.self.inside.trail.items c.self.inside.limit c.self.inside.clients c.self.inside.pages) c.args.cache.now c.as_slice-missing.result.now
-    (whole (hub_of c.self.inside.trail.items c.self.inside.limit c.self.inside.clients c.self.inside.pages) c.self.invariant.0 c.self.invariant.1)
-    (owning_for c.args.who (hub_of c.self.inside.trail.items c.self.inside.limit c.self.inside.clients c.self.inside.pages) c.args.cache.now c.requires.client c.self.invariant.0 (subst (λ (h : HubView). Owns h c.args.cache.now) (sym c.self.view_is) c.requires.owns)
+    (begins_installed (hub_of c.self.inside.trail.items c.self.inside.limit (stabilisations_of c.self.inside.unended.each) c.self.inside.clients c.self.inside.pages) c.args.cache.now c.as_slice-missing.result.now
+    (whole (hub_of c.self.inside.trail.items c.self.inside.limit (stabilisations_of c.self.inside.unended.each) c.self.inside.clients c.self.inside.pages) c.self.invariant.0)
+    (owning_for c.args.who (hub_of c.self.inside.trail.items c.self.inside.limit (stabilisations_of c.self.inside.unended.each) c.self.inside.clients c.self.inside.pages) c.args.cache.now c.requires.client c.self.invariant.0 (subst (λ (h : HubView). Owns h c.args.cache.now) (sym c.self.view_is) c.requires.owns)
     (subst (λ (h : HubView). fallen_in h c.args.who ≡ None) (sym c.self.view_is) c.requires.up))).covers)
 
 pub grant-requires-clause-pages : goal.grant-requires-clause-pages
@@ -114,59 +118,59 @@ grant-requires-clause-pages c want inside =
 pub open-requires-clause-own : goal.open-requires-clause-own
 open-requires-clause-own c =
     subst (λ (own : cache.Own). cache.IsSound own) (sym c.in_ok-install.ensures.ok)
-    (installed_sound (hub_of c.self.inside.trail.items c.self.inside.limit c.self.inside.clients c.self.inside.pages) c.args.cache.now c.as_slice-missing.result.now
+    (installed_sound (hub_of c.self.inside.trail.items c.self.inside.limit (stabilisations_of c.self.inside.unended.each) c.self.inside.clients c.self.inside.pages) c.args.cache.now c.as_slice-missing.result.now
     (subst (λ (h : HubView). Owns h c.args.cache.now) (sym c.self.view_is) c.requires.owns)
     (subst (λ (l : List Want). length l ≤ 4) (sym c.as_slice-missing.ensures.wants) c.as_slice-missing.ensures.few))
 
 pub grant-requires-clause-held : goal.grant-requires-clause-held
 grant-requires-clause-held c want inside =
-    missing_held (hub_of c.self.inside.trail.items c.self.inside.limit c.self.inside.clients c.self.inside.pages) c.args.cache.now c.args.wants.now c.as_slice-missing.result.now (hub_of c.open.new.trail.items c.self.inside.limit c.open.new.clients c.open.new.pages) c.open.new.cache
-    (ready_for c.args.who c.self.inside.limit c.args.self.now c.args.cache.now c.install.new.cache c.open.new.cache c.args.wants.now c.args.missing.now c.as_slice-missing.result.now c.reserve.new.self.items c.self.inside.trail.items
-    c.self.inside.clients c.self.inside.pages (hub_of c.open.new.trail.items c.self.inside.limit c.open.new.clients c.open.new.pages)
-    c.self.view_is c.requires.client c.self.invariant.0 c.self.invariant.1 c.requires.owns c.requires.up c.requires.grants c.as_slice-missing.ensures.wants c.reserve.ensures.items c.in_ok-install.ensures.ok c.open.ensures.opens) want inside
+    missing_held (hub_of c.self.inside.trail.items c.self.inside.limit (stabilisations_of c.self.inside.unended.each) c.self.inside.clients c.self.inside.pages) c.args.cache.now c.args.wants.now c.as_slice-missing.result.now (hub_of c.open.new.trail.items c.self.inside.limit (stabilisations_of c.self.inside.unended.each) c.open.new.clients c.open.new.pages) c.open.new.cache
+    (ready_for c.args.who c.self.inside.limit (stabilisations_of c.self.inside.unended.each) c.args.self.now c.args.cache.now c.install.new.cache c.open.new.cache c.args.wants.now c.args.missing.now c.as_slice-missing.result.now c.reserve.new.self.items c.self.inside.trail.items
+    c.self.inside.clients c.self.inside.pages (hub_of c.open.new.trail.items c.self.inside.limit (stabilisations_of c.self.inside.unended.each) c.open.new.clients c.open.new.pages)
+    c.self.view_is c.requires.client c.self.invariant.0 c.requires.owns c.requires.up c.requires.grants c.as_slice-missing.ensures.wants c.reserve.ensures.items c.in_ok-install.ensures.ok c.open.ensures.opens) want inside
 
 pub grant-requires-clause-free : goal.grant-requires-clause-free
 grant-requires-clause-free c want inside =
     subst (λ (w : ℕ). conflicts_at c.open.new.pages.rights want.page w want.right ≡ []) c.requires.client
-    (missing_free (hub_of c.self.inside.trail.items c.self.inside.limit c.self.inside.clients c.self.inside.pages) c.args.cache.now c.args.wants.now c.as_slice-missing.result.now (hub_of c.open.new.trail.items c.self.inside.limit c.open.new.clients c.open.new.pages) c.open.new.cache
-    (ready_for c.args.who c.self.inside.limit c.args.self.now c.args.cache.now c.install.new.cache c.open.new.cache c.args.wants.now c.args.missing.now c.as_slice-missing.result.now c.reserve.new.self.items c.self.inside.trail.items
-    c.self.inside.clients c.self.inside.pages (hub_of c.open.new.trail.items c.self.inside.limit c.open.new.clients c.open.new.pages)
-    c.self.view_is c.requires.client c.self.invariant.0 c.self.invariant.1 c.requires.owns c.requires.up c.requires.grants c.as_slice-missing.ensures.wants c.reserve.ensures.items c.in_ok-install.ensures.ok c.open.ensures.opens) want inside)
+    (missing_free (hub_of c.self.inside.trail.items c.self.inside.limit (stabilisations_of c.self.inside.unended.each) c.self.inside.clients c.self.inside.pages) c.args.cache.now c.args.wants.now c.as_slice-missing.result.now (hub_of c.open.new.trail.items c.self.inside.limit (stabilisations_of c.self.inside.unended.each) c.open.new.clients c.open.new.pages) c.open.new.cache
+    (ready_for c.args.who c.self.inside.limit (stabilisations_of c.self.inside.unended.each) c.args.self.now c.args.cache.now c.install.new.cache c.open.new.cache c.args.wants.now c.args.missing.now c.as_slice-missing.result.now c.reserve.new.self.items c.self.inside.trail.items
+    c.self.inside.clients c.self.inside.pages (hub_of c.open.new.trail.items c.self.inside.limit (stabilisations_of c.self.inside.unended.each) c.open.new.clients c.open.new.pages)
+    c.self.view_is c.requires.client c.self.invariant.0 c.requires.owns c.requires.up c.requires.grants c.as_slice-missing.ensures.wants c.reserve.ensures.items c.in_ok-install.ensures.ok c.open.ensures.opens) want inside)
 
 pub bring_to_front-requires : goal.bring_to_front-requires
 bring_to_front-requires c want inside =
     subst (λ (own : cache.Own). IsSome (right_of want.page own.held)) (sym c.allow.ensures.allowed)
     (subst (λ (own : cache.Own). IsSome (right_of want.page own.held)) (sym c.grant.ensures.cache)
-    (wanted_held (hub_of c.self.inside.trail.items c.self.inside.limit c.self.inside.clients c.self.inside.pages) c.args.cache.now c.args.wants.now c.as_slice-missing.result.now (hub_of c.open.new.trail.items c.self.inside.limit c.open.new.clients c.open.new.pages) c.open.new.cache
-    (ready_for c.args.who c.self.inside.limit c.args.self.now c.args.cache.now c.install.new.cache c.open.new.cache c.args.wants.now c.args.missing.now c.as_slice-missing.result.now c.reserve.new.self.items c.self.inside.trail.items
-    c.self.inside.clients c.self.inside.pages (hub_of c.open.new.trail.items c.self.inside.limit c.open.new.clients c.open.new.pages)
-    c.self.view_is c.requires.client c.self.invariant.0 c.self.invariant.1 c.requires.owns c.requires.up c.requires.grants c.as_slice-missing.ensures.wants c.reserve.ensures.items c.in_ok-install.ensures.ok c.open.ensures.opens) want inside))
+    (wanted_held (hub_of c.self.inside.trail.items c.self.inside.limit (stabilisations_of c.self.inside.unended.each) c.self.inside.clients c.self.inside.pages) c.args.cache.now c.args.wants.now c.as_slice-missing.result.now (hub_of c.open.new.trail.items c.self.inside.limit (stabilisations_of c.self.inside.unended.each) c.open.new.clients c.open.new.pages) c.open.new.cache
+    (ready_for c.args.who c.self.inside.limit (stabilisations_of c.self.inside.unended.each) c.args.self.now c.args.cache.now c.install.new.cache c.open.new.cache c.args.wants.now c.args.missing.now c.as_slice-missing.result.now c.reserve.new.self.items c.self.inside.trail.items
+    c.self.inside.clients c.self.inside.pages (hub_of c.open.new.trail.items c.self.inside.limit (stabilisations_of c.self.inside.unended.each) c.open.new.clients c.open.new.pages)
+    c.self.view_is c.requires.client c.self.invariant.0 c.requires.owns c.requires.up c.requires.grants c.as_slice-missing.ensures.wants c.reserve.ensures.items c.in_ok-install.ensures.ok c.open.ensures.opens) want inside))
 
 pub shrink-requires-clause-covers : goal.shrink-requires-clause-covers
 shrink-requires-clause-covers c =
     subst (λ (w : ℕ). Covers w c.grant.new.pages c.bring_to_front.new.cache.held) c.requires.client
     (subst (λ (l : List Held). Covers c.args.cache.now.client c.grant.new.pages l) (sym (fronted_held c.open.new.cache c.grant.new.cache c.allow.new.self c.bring_to_front.new.cache c.as_slice-missing.result.now c.args.wants.now (c.cap.result - length c.as_slice-missing.result.now) c.grant.ensures.cache c.allow.ensures.allowed c.bring_to_front.ensures))
-    (covers_given (hub_of c.self.inside.trail.items c.self.inside.limit c.self.inside.clients c.self.inside.pages) c.args.cache.now c.args.wants.now c.as_slice-missing.result.now (hub_of c.open.new.trail.items c.self.inside.limit c.open.new.clients c.open.new.pages) c.open.new.cache c.grant.new.pages
-    (ready_for c.args.who c.self.inside.limit c.args.self.now c.args.cache.now c.install.new.cache c.open.new.cache c.args.wants.now c.args.missing.now c.as_slice-missing.result.now c.reserve.new.self.items c.self.inside.trail.items
-    c.self.inside.clients c.self.inside.pages (hub_of c.open.new.trail.items c.self.inside.limit c.open.new.clients c.open.new.pages)
-    c.self.view_is c.requires.client c.self.invariant.0 c.self.invariant.1 c.requires.owns c.requires.up c.requires.grants c.as_slice-missing.ensures.wants c.reserve.ensures.items c.in_ok-install.ensures.ok c.open.ensures.opens)
+    (covers_given (hub_of c.self.inside.trail.items c.self.inside.limit (stabilisations_of c.self.inside.unended.each) c.self.inside.clients c.self.inside.pages) c.args.cache.now c.args.wants.now c.as_slice-missing.result.now (hub_of c.open.new.trail.items c.self.inside.limit (stabilisations_of c.self.inside.unended.each) c.open.new.clients c.open.new.pages) c.open.new.cache c.grant.new.pages
+    (ready_for c.args.who c.self.inside.limit (stabilisations_of c.self.inside.unended.each) c.args.self.now c.args.cache.now c.install.new.cache c.open.new.cache c.args.wants.now c.args.missing.now c.as_slice-missing.result.now c.reserve.new.self.items c.self.inside.trail.items
+    c.self.inside.clients c.self.inside.pages (hub_of c.open.new.trail.items c.self.inside.limit (stabilisations_of c.self.inside.unended.each) c.open.new.clients c.open.new.pages)
+    c.self.view_is c.requires.client c.self.invariant.0 c.requires.owns c.requires.up c.requires.grants c.as_slice-missing.ensures.wants c.reserve.ensures.items c.in_ok-install.ensures.ok c.open.ensures.opens)
     (subst (λ (w : ℕ). GivesRights w c.as_slice-missing.result.now c.open.new.pages c.grant.new.pages) (sym c.requires.client)
     record { frames = c.grant.ensures.frames; count = c.grant.ensures.count; rights = c.grant.ensures.rights; holders = c.grant.ensures.holders c.open.ensures.opens.gives.holders })))
 
 pub shrink-requires-clause-all : goal.shrink-requires-clause-all
 shrink-requires-clause-all c page =
     subst (λ (w : ℕ). right_at c.grant.new.pages.rights w page ≡ right_of page c.bring_to_front.new.cache.held) c.requires.client
-    (rights_given (hub_of c.self.inside.trail.items c.self.inside.limit c.self.inside.clients c.self.inside.pages) c.args.cache.now c.args.wants.now c.as_slice-missing.result.now (hub_of c.open.new.trail.items c.self.inside.limit c.open.new.clients c.open.new.pages) c.open.new.cache c.grant.new.pages
-    (ready_for c.args.who c.self.inside.limit c.args.self.now c.args.cache.now c.install.new.cache c.open.new.cache c.args.wants.now c.args.missing.now c.as_slice-missing.result.now c.reserve.new.self.items c.self.inside.trail.items
-    c.self.inside.clients c.self.inside.pages (hub_of c.open.new.trail.items c.self.inside.limit c.open.new.clients c.open.new.pages)
-    c.self.view_is c.requires.client c.self.invariant.0 c.self.invariant.1 c.requires.owns c.requires.up c.requires.grants c.as_slice-missing.ensures.wants c.reserve.ensures.items c.in_ok-install.ensures.ok c.open.ensures.opens)
+    (rights_given (hub_of c.self.inside.trail.items c.self.inside.limit (stabilisations_of c.self.inside.unended.each) c.self.inside.clients c.self.inside.pages) c.args.cache.now c.args.wants.now c.as_slice-missing.result.now (hub_of c.open.new.trail.items c.self.inside.limit (stabilisations_of c.self.inside.unended.each) c.open.new.clients c.open.new.pages) c.open.new.cache c.grant.new.pages
+    (ready_for c.args.who c.self.inside.limit (stabilisations_of c.self.inside.unended.each) c.args.self.now c.args.cache.now c.install.new.cache c.open.new.cache c.args.wants.now c.args.missing.now c.as_slice-missing.result.now c.reserve.new.self.items c.self.inside.trail.items
+    c.self.inside.clients c.self.inside.pages (hub_of c.open.new.trail.items c.self.inside.limit (stabilisations_of c.self.inside.unended.each) c.open.new.clients c.open.new.pages)
+    c.self.view_is c.requires.client c.self.invariant.0 c.requires.owns c.requires.up c.requires.grants c.as_slice-missing.ensures.wants c.reserve.ensures.items c.in_ok-install.ensures.ok c.open.ensures.opens)
     (subst (λ (w : ℕ). GivesRights w c.as_slice-missing.result.now c.open.new.pages c.grant.new.pages) (sym c.requires.client)
     record { frames = c.grant.ensures.frames; count = c.grant.ensures.count; rights = c.grant.ensures.rights; holders = c.grant.ensures.holders c.open.ensures.opens.gives.holders }) page
     ∙ sym (ap (right_of page) (fronted_held c.open.new.cache c.grant.new.cache c.allow.new.self c.bring_to_front.new.cache c.as_slice-missing.result.now c.args.wants.now (c.cap.result - length c.as_slice-missing.result.now) c.grant.ensures.cache c.allow.ensures.allowed c.bring_to_front.ensures)))
 
-made : (c : goal.After-shrink) → Made c.args.cache.now.client c.args.wants.now c.as_slice-missing.result.now (hub_of c.open.new.trail.items c.self.inside.limit c.open.new.clients c.open.new.pages) c.open.new.cache (hub_of c.grant.new.trail.items c.self.inside.limit c.set_asks.new.self c.shrink.new.pages) c.shrink.new.cache
+made : (c : goal.After-shrink) → Made c.args.cache.now.client c.args.wants.now c.as_slice-missing.result.now (hub_of c.open.new.trail.items c.self.inside.limit (stabilisations_of c.self.inside.unended.each) c.open.new.clients c.open.new.pages) c.open.new.cache (hub_of c.grant.new.trail.items c.self.inside.limit (stabilisations_of c.self.inside.unended.each) c.set_asks.new.self c.shrink.new.pages) c.shrink.new.cache
 made c =
-    subst (λ (w : ℕ). Made w c.args.wants.now c.as_slice-missing.result.now (hub_of c.open.new.trail.items c.self.inside.limit c.open.new.clients c.open.new.pages) c.open.new.cache (hub_of c.grant.new.trail.items c.self.inside.limit c.set_asks.new.self c.shrink.new.pages) c.shrink.new.cache) (sym c.requires.client) record {
+    subst (λ (w : ℕ). Made w c.args.wants.now c.as_slice-missing.result.now (hub_of c.open.new.trail.items c.self.inside.limit (stabilisations_of c.self.inside.unended.each) c.open.new.clients c.open.new.pages) c.open.new.cache (hub_of c.grant.new.trail.items c.self.inside.limit (stabilisations_of c.self.inside.unended.each) c.set_asks.new.self c.shrink.new.pages) c.shrink.new.cache) (sym c.requires.client) record {
       granted = c.grant.new.pages;
       gives_rights = record { frames = c.grant.ensures.frames; count = c.grant.ensures.count; rights = c.grant.ensures.rights; holders = c.grant.ensures.holders c.open.ensures.opens.gives.holders };
       others = c.grant.ensures.others;
@@ -189,24 +193,24 @@ made c =
       own_is = c.shrink.ensures.cache;
     }
 
-ready : (c : goal.After-shrink) → Ready (hub_of c.self.inside.trail.items c.self.inside.limit c.self.inside.clients c.self.inside.pages) c.args.cache.now c.args.wants.now c.as_slice-missing.result.now (hub_of c.open.new.trail.items c.self.inside.limit c.open.new.clients c.open.new.pages) c.open.new.cache
+ready : (c : goal.After-shrink) → Ready (hub_of c.self.inside.trail.items c.self.inside.limit (stabilisations_of c.self.inside.unended.each) c.self.inside.clients c.self.inside.pages) c.args.cache.now c.args.wants.now c.as_slice-missing.result.now (hub_of c.open.new.trail.items c.self.inside.limit (stabilisations_of c.self.inside.unended.each) c.open.new.clients c.open.new.pages) c.open.new.cache
 ready c =
-    ready_for c.args.who c.self.inside.limit c.args.self.now c.args.cache.now c.install.new.cache c.open.new.cache c.args.wants.now c.args.missing.now c.as_slice-missing.result.now c.reserve.new.self.items c.self.inside.trail.items
-    c.self.inside.clients c.self.inside.pages (hub_of c.open.new.trail.items c.self.inside.limit c.open.new.clients c.open.new.pages)
-    c.self.view_is c.requires.client c.self.invariant.0 c.self.invariant.1 c.requires.owns c.requires.up c.requires.grants c.as_slice-missing.ensures.wants c.reserve.ensures.items c.in_ok-install.ensures.ok c.open.ensures.opens
+    ready_for c.args.who c.self.inside.limit (stabilisations_of c.self.inside.unended.each) c.args.self.now c.args.cache.now c.install.new.cache c.open.new.cache c.args.wants.now c.args.missing.now c.as_slice-missing.result.now c.reserve.new.self.items c.self.inside.trail.items
+    c.self.inside.clients c.self.inside.pages (hub_of c.open.new.trail.items c.self.inside.limit (stabilisations_of c.self.inside.unended.each) c.open.new.clients c.open.new.pages)
+    c.self.view_is c.requires.client c.self.invariant.0 c.requires.owns c.requires.up c.requires.grants c.as_slice-missing.ensures.wants c.reserve.ensures.items c.in_ok-install.ensures.ok c.open.ensures.opens
 
 -- the hub as it was, and after the turn
 abbrev before : goal.After-shrink → HubView
-before c = (hub_of c.self.inside.trail.items c.self.inside.limit c.self.inside.clients c.self.inside.pages)
+before c = (hub_of c.self.inside.trail.items c.self.inside.limit (stabilisations_of c.self.inside.unended.each) c.self.inside.clients c.self.inside.pages)
 
 abbrev after : goal.After-shrink → HubView
-after c = hub_of c.grant.new.trail.items c.self.inside.limit c.set_asks.new.self c.shrink.new.pages
+after c = hub_of c.grant.new.trail.items c.self.inside.limit (stabilisations_of c.self.inside.unended.each) c.set_asks.new.self c.shrink.new.pages
 
 turned : (c : goal.After-shrink) → Granting c.args.self.now c.args.cache.now c.args.wants.now c.args.missing.now (after c) c.shrink.new.cache
 turned c =
     subst (λ (l : List Want). Granting c.args.self.now c.args.cache.now c.args.wants.now l (after c) c.shrink.new.cache) c.as_slice-missing.ensures.wants
     (subst (λ (h : HubView). Granting h c.args.cache.now c.args.wants.now c.as_slice-missing.result.now (after c) c.shrink.new.cache) c.self.view_is
-    (granting_made (before c) c.args.cache.now c.args.wants.now c.as_slice-missing.result.now (hub_of c.open.new.trail.items c.self.inside.limit c.open.new.clients c.open.new.pages)
+    (granting_made (before c) c.args.cache.now c.args.wants.now c.as_slice-missing.result.now (hub_of c.open.new.trail.items c.self.inside.limit (stabilisations_of c.self.inside.unended.each) c.open.new.clients c.open.new.pages)
     c.open.new.cache (after c) c.shrink.new.cache (ready c) (made c)))
 
 acquires : (c : goal.After-shrink) (calls : ℕ) → length c.args.missing.now + calls ≤ topped c.args.cache.now (free_in c.args.self.now)
@@ -214,6 +218,8 @@ acquires : (c : goal.After-shrink) (calls : ℕ) → length c.args.missing.now +
 acquires c calls room =
     let turn = turned c in
     grant_turn c.args.self.now c.args.cache.now c.args.wants.now c.args.missing.now calls (after c) c.shrink.new.cache turn.sound turn.owns
+    (ap (gathering_in c.args.self.now) c.requires.client ∙ c.requires.apart)
+    (ap (λ (who : ℕ). refused_at_once (part_of c.args.self.now) who (missing_in c.args.self.now.pages c.args.self.now.clients who c.args.wants.now)) c.requires.client ∙ c.requires.free)
     (nobody_blocks c.args.self.now c.args.cache.now c.args.wants.now c.args.missing.now turn.can)
     (room_for c.args.self.now c.args.cache.now c.args.wants.now c.args.missing.now calls turn.can room) turn.can turn.grants
     (opened_is_sound c.args.self.now c.args.cache.now c.args.wants.now c.args.missing.now (after c) c.shrink.new.cache turn)
@@ -240,15 +246,15 @@ sound_after c = record {
 pub invariant_of-self-2 : goal.invariant_of-self-2
 invariant_of-self-2 c = (
   sound_after c,
-  granted_plain c.args.self.now c.args.cache.now c.args.wants.now c.args.missing.now (after c) c.shrink.new.cache (turned c),
   record {
-    limit = c.grant.ensures.limit ∙ c.open.ensures.limit ∙ c.reserve.ensures.limit ∙ c.self.invariant.2.limit;
+    limit = c.grant.ensures.limit ∙ c.open.ensures.limit ∙ c.reserve.ensures.limit ∙ c.self.invariant.1.limit;
     associations = subst (AreAssociationsOf c.touch_each.new.self) (sym c.grant.ensures.trail)
         (c.touch_each.ensures.trail c.open.new.trail.items c.open.ensures.clients c.open.ensures.associations);
-    pages = c.touch_each.ensures.pages ∙ c.open.ensures.pages_stay ∙ c.self.invariant.2.pages
+    pages = c.touch_each.ensures.pages ∙ c.open.ensures.pages_stay ∙ c.self.invariant.1.pages
         ∙ sym (c.shrink.ensures.gives.rights_count ∙ c.grant.ensures.count ∙ c.open.ensures.opens.gives.rights_count);
-    room = room_after c.set_asks.new.self c.reserve.new.self.room c.open.new.trail.room (length c.args.cache.now.pending) (length c.as_slice-missing.result.now)
-        (length c.as_slice.result.now) (sound_after c).formed.places c.in_ok-reserve.ensures.ok
+    room = room_after c.grant.new.trail.items c.self.inside.limit c.self.inside.unended.each c.set_asks.new.self c.shrink.new.pages
+        c.reserve.new.self.room c.open.new.trail.room (length c.args.cache.now.pending) (length c.as_slice-missing.result.now)
+        (length c.as_slice.result.now) (sound_after c) c.in_ok-reserve.ensures.ok
         (c.open.ensures.room ∙ ap (λ (o : cache.Own). c.open.new.trail.room + length o.pending) c.in_ok-install.ensures.ok)
         (ap length (c.as_slice.ensures ∙ c.pending.ensures)) c.grant.new.trail.room c.grant.ensures.room;
   },
@@ -286,15 +292,15 @@ pub open-requires-clause-calls : goal.open-requires-clause-calls
 open-requires-clause-calls c =
     subst (λ (own : cache.Own). MayBeRecorded c.reserve.new.self.items c.self.inside.pages c.args.who own.pending) (sym c.in_ok-install.ensures.ok)
     (subst (λ (items : List Item). MayBeRecorded items c.self.inside.pages c.args.who c.args.cache.now.pending) (sym c.reserve.ensures.items)
-    (may_record_for c.args.who (hub_of c.self.inside.trail.items c.self.inside.limit c.self.inside.clients c.self.inside.pages) c.args.cache.now c.requires.client
-    (whole (hub_of c.self.inside.trail.items c.self.inside.limit c.self.inside.clients c.self.inside.pages) c.self.invariant.0 c.self.invariant.1)
-    (owning_for c.args.who (hub_of c.self.inside.trail.items c.self.inside.limit c.self.inside.clients c.self.inside.pages) c.args.cache.now c.requires.client c.self.invariant.0
+    (may_record_for c.args.who (hub_of c.self.inside.trail.items c.self.inside.limit (stabilisations_of c.self.inside.unended.each) c.self.inside.clients c.self.inside.pages) c.args.cache.now c.requires.client
+    (whole (hub_of c.self.inside.trail.items c.self.inside.limit (stabilisations_of c.self.inside.unended.each) c.self.inside.clients c.self.inside.pages) c.self.invariant.0)
+    (owning_for c.args.who (hub_of c.self.inside.trail.items c.self.inside.limit (stabilisations_of c.self.inside.unended.each) c.self.inside.clients c.self.inside.pages) c.args.cache.now c.requires.client c.self.invariant.0
     (subst (λ (h : HubView). Owns h c.args.cache.now) (sym c.self.view_is) c.requires.owns) (subst (λ (h : HubView). fallen_in h c.args.who ≡ None) (sym c.self.view_is) c.requires.up))))
 
 pub touch_each-requires : goal.touch_each-requires
 touch_each-requires c = record {
   within = λ want inside.
-      subst (λ n. want.page < n) (sym (c.open.ensures.pages_stay ∙ c.self.invariant.2.pages))
+      subst (λ n. want.page < n) (sym (c.open.ensures.pages_stay ∙ c.self.invariant.1.pages))
       (subst (λ (h : HubView). want.page < page_count h) (sym c.self.view_is)
       (c.requires.range want
       (contains_passing (is_missing c.args.self.now.pages c.args.self.now.clients c.args.who) c.args.wants.now want
@@ -304,8 +310,8 @@ touch_each-requires c = record {
 pub overflow_sub-cap : goal.overflow_sub-cap
 overflow_sub-cap c =
     subst (λ n. length c.as_slice-missing.result.now ≤ n)
-    (ap (cap_in (hub_of c.open.new.trail.items c.self.inside.limit c.open.new.clients c.open.new.pages)) c.requires.client ∙ sym c.cap.ensures)
-    (cap_ready (hub_of c.self.inside.trail.items c.self.inside.limit c.self.inside.clients c.self.inside.pages) c.args.cache.now c.args.wants.now c.as_slice-missing.result.now (hub_of c.open.new.trail.items c.self.inside.limit c.open.new.clients c.open.new.pages) c.open.new.cache
-    (ready_for c.args.who c.self.inside.limit c.args.self.now c.args.cache.now c.install.new.cache c.open.new.cache c.args.wants.now c.args.missing.now c.as_slice-missing.result.now c.reserve.new.self.items c.self.inside.trail.items
-    c.self.inside.clients c.self.inside.pages (hub_of c.open.new.trail.items c.self.inside.limit c.open.new.clients c.open.new.pages)
-    c.self.view_is c.requires.client c.self.invariant.0 c.self.invariant.1 c.requires.owns c.requires.up c.requires.grants c.as_slice-missing.ensures.wants c.reserve.ensures.items c.in_ok-install.ensures.ok c.open.ensures.opens))
+    (ap (cap_in (hub_of c.open.new.trail.items c.self.inside.limit (stabilisations_of c.self.inside.unended.each) c.open.new.clients c.open.new.pages)) c.requires.client ∙ sym c.cap.ensures)
+    (cap_ready (hub_of c.self.inside.trail.items c.self.inside.limit (stabilisations_of c.self.inside.unended.each) c.self.inside.clients c.self.inside.pages) c.args.cache.now c.args.wants.now c.as_slice-missing.result.now (hub_of c.open.new.trail.items c.self.inside.limit (stabilisations_of c.self.inside.unended.each) c.open.new.clients c.open.new.pages) c.open.new.cache
+    (ready_for c.args.who c.self.inside.limit (stabilisations_of c.self.inside.unended.each) c.args.self.now c.args.cache.now c.install.new.cache c.open.new.cache c.args.wants.now c.args.missing.now c.as_slice-missing.result.now c.reserve.new.self.items c.self.inside.trail.items
+    c.self.inside.clients c.self.inside.pages (hub_of c.open.new.trail.items c.self.inside.limit (stabilisations_of c.self.inside.unended.each) c.open.new.clients c.open.new.pages)
+    c.self.view_is c.requires.client c.self.invariant.0 c.requires.owns c.requires.up c.requires.grants c.as_slice-missing.ensures.wants c.reserve.ensures.items c.in_ok-install.ensures.ok c.open.ensures.opens))
