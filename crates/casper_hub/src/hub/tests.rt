@@ -1,4 +1,6 @@
 use super::*;
+use casper_cache::Cache;
+use casper_model::StabReply;
 use std::test::Fail;
 
 #[test]
@@ -33,5 +35,17 @@ fn supplies(rt: HostRuntime) -> Result<(), Fail> {
         Ok(false),
         "read before a commit"
     );
+    Ok(())
+}
+
+#[test]
+fn begins_a_stabilisation(rt: HostRuntime) -> Result<(), Fail> {
+    let alloc = rt.alloc();
+    let mut hub = Hub::new(alloc, 4, 5000)?;
+    let first = Who::new(1).ok_or(Memory)?;
+    let mut cache = Cache::new(alloc, first, 8)?;
+    assert!(rt; hub.join(first).is_ok());
+    cache.allow(hub.cap(first));
+    assert_eq!(rt; hub.stabilise(first, &mut cache), Ok(StabReply::Sealed(0)));
     Ok(())
 }
