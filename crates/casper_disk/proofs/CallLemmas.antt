@@ -1,5 +1,6 @@
 use Rattle.std.proofs.Common.{◌≡◌, ◌+◌, ℕ, Bool, false, Vec, replicate, ◌∷◌, ◌++◌, ◌∙◌, [], List, length, refl, ap, arith, length-append}
 use Rattle.casper_disk.specs.Calls.{KeepsRecord, IsArmed}
+use Rattle.casper_disk.specs.Disk.{IsLooseWithin}
 use Rattle.casper_disk.specs.MemDisk.{Held}
 use Rattle.casper_disk.specs.Record.{content_before, content_at, loose_at}
 use Rattle.casper_disk.specs.Plan.{armed_with}
@@ -27,3 +28,7 @@ armed_by_parts fails calls before after missed marked content steps armed room m
     let count : after.armed ≡ length before.steps + 1 = armed ∙ ap length steps ∙ length-append before.steps (step.Missed missed ∷ []) in
     let parts : after ≡ record { content = after.content; steps = after.steps; armed = after.armed; room = after.room; marks = after.marks; plan = after.plan } = refl in
     record { missed = missed; marked = marked; disk = cc }
+
+-- what is loose is within itself
+pub all_within : (old new : ℕ → Bool) → new ≡ old → IsLooseWithin old new
+all_within old new same = λ at out. ap (λ (loose : ℕ → Bool). loose at) same ∙ out

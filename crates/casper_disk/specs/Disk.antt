@@ -12,6 +12,10 @@ none_loose at = false
 abbrev pub with_loose : ℕ → (ℕ → Bool) → ℕ → Bool
 with_loose block loose at = at == block || loose at
 
+-- each block that is loose is among these
+abbrev pub IsLooseWithin : (ℕ → Bool) → (ℕ → Bool) → Type 0
+IsLooseWithin most loose = (at : ℕ) → most at ≡ false → loose at ≡ false
+
 -- the blocks are the same but where they may differ
 pub record AgreesBut (may_differ : ℕ → Bool) (blocks image : List (List ℕ)) : Type 0 where
   pub count : length image ≡ length blocks

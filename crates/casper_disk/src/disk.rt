@@ -1,6 +1,6 @@
 ghost use Rattle.std.specs.Prelude.{◌≡◌, ◌==◌, ℕ, ◌<◌, ◌≤◌, Bool, false, List, length, slice_set, IsTrue, OnOk, OnErr};
 ghost use Rattle.casper_words.specs.Count.{FaultCountRose};
-ghost use Rattle.casper_disk.specs.Disk.{block_at, none_loose, with_loose, AgreesBut, Elapses, KeepsImages};
+ghost use Rattle.casper_disk.specs.Disk.{block_at, none_loose, with_loose, IsLooseWithin, AgreesBut, Elapses, KeepsImages};
 
 use casper_words::Block;
 
@@ -12,7 +12,7 @@ pub enum DiskFault {
 
 /// A disk: a number of blocks of 4,096 bytes, which are read and written whole.
 ///
-/// A block is loose from the start of a write of it until a sync answers Ok. A stop, at any moment and within a call too,
+/// A block is loose, at most, from the start of a write of it until a sync answers Ok. A stop, at any moment and within a call too,
 /// leaves an image: the content, but with any bytes in the blocks that are loose. A disk may tell its content, its loose
 /// blocks and its images, or tell nothing of them. It counts its faults, up to `u64::MAX`.
 pub trait Disk {
@@ -54,7 +54,7 @@ pub trait Disk {
         ensures block { IsTrue tells → OnOk result (into.new ≡ block_at (content self.old) at) }
         ensures size { size self.new ≡ size self.old }
         ensures content { IsTrue tells → content self.new ≡ content self.old }
-        ensures loose { IsTrue tells → loose self.new ≡ loose self.old }
+        ensures loose { IsTrue tells → IsLooseWithin (loose self.old) (loose self.new) }
         ensures images { IsTrue tells →
             KeepsImages (moment self.old) (moment self.new) (images_since self.old)
             (images_since self.new) }
@@ -62,7 +62,7 @@ pub trait Disk {
         ensures never_falls { faults self.old ≤ faults self.new }
         ensures leads { leads_to self.old self.new };
 
-    /// Writes a block, which is then loose. After a fault its content is not known.
+    /// Writes a block, which may then be loose. After a fault its content is not known.
     fn write(&mut self, at: u32, from: &Block) -> Result<(), DiskFault>
         requires { at < size self.old }
         ensures size { size self.new ≡ size self.old }
@@ -70,7 +70,8 @@ pub trait Disk {
             → OnOk result (content self.new ≡ slice_set (content self.old) at from.now) }
         ensures others { IsTrue tells
             → AgreesBut (λ other. other == at) (content self.old) (content self.new) }
-        ensures loose { IsTrue tells → loose self.new ≡ with_loose at (loose self.old) }
+        ensures loose { IsTrue tells →
+            IsLooseWithin (with_loose at (loose self.old)) (loose self.new) }
         ensures images { IsTrue tells →
             Elapses (moment self.old) (moment self.new) (images_since self.old)
             (images_since self.new)
@@ -79,12 +80,13 @@ pub trait Disk {
         ensures never_falls { faults self.old ≤ faults self.new }
         ensures leads { leads_to self.old self.new };
 
-    /// Settles what was written. After a fault each block that was loose still is.
+    /// Settles what was written. After a fault each block that was loose may still be.
     fn sync(&mut self) -> Result<(), DiskFault>
         ensures size { size self.new ≡ size self.old }
         ensures content { IsTrue tells → content self.new ≡ content self.old }
         ensures settled { IsTrue tells → OnOk result (loose self.new ≡ none_loose) }
-        ensures unsettled { IsTrue tells → OnErr result (loose self.new ≡ loose self.old) }
+        ensures unsettled { IsTrue tells →
+            OnErr result (IsLooseWithin (loose self.old) (loose self.new)) }
         ensures images { IsTrue tells →
             Elapses (moment self.old) (moment self.new) (images_since self.old)
             (images_since self.new)

@@ -144,9 +144,12 @@ impl<F: FileExt + OpenFile> Disk for FileDisk<F> {
 #[cfg(test)]
 mod tests {
     use super::*;
+    use casper_words::Memory;
+    use std::alloc::Global;
     use std::cell::Cell;
     use std::fs::{self, Metadata};
     use std::io::ErrorKind;
+    use std::rt::Files;
     use std::test::Fail;
 
     /// A file that interrupts every second read and write, does at most 1,000 bytes in one, and has as many syncs that fail.
@@ -204,49 +207,87 @@ mod tests {
         }
     }
 
-    /// Fills a block with bytes that are not the same at any two neighbouring places.
-    fn fill(block: &mut Block, step: u8) {
+    /// A block of bytes that are not the same at any two neighbouring places.
+    fn filled(alloc: Global, step: u8) -> Result<Block, Memory> {
+        let mut block = Block::zero(alloc)?;
         let mut byte = 0u8;
         for at in 0..4096 {
             byte = byte.wrapping_add(step);
             block.put(at, &[byte]);
         }
+        Ok(block)
+    }
+
+    /// A disk of two blocks over a rough file, of which so many syncs fail.
+    fn rough<R: Files<File = File>>(
+        rt: &R,
+        path: &str,
+        failing_syncs: u32,
+    ) -> io::Result<FileDisk<RoughFile>> {
+        let mut options = fs::OpenOptions::new();
+        let options = options.read(true).write(true).create(true).truncate(true);
+        let rough = RoughFile {
+            file: options.open(rt, path)?,
+            interrupts: Cell::new(false),
+            failing_syncs: Cell::new(failing_syncs),
+        };
+        Ok(FileDisk::over(rough, 2))
+    }
+
+    /// Writes two blocks, the second one first.
+    fn write_two<D: Disk>(disk: &mut D, blocks: [&Block; 2]) -> Result<(), DiskFault> {
+        if disk.blocks() < 2 {
+            return Err(DiskFault::Failed);
+        }
+        let [first, second] = blocks;
+        disk.write(1, second)?;
+        disk.write(0, first)
+    }
+
+    /// Whether a block of a disk is this one.
+    fn has<D: Disk>(alloc: Global, disk: &mut D, at: u32, block: &Block) -> Result<bool, Fail> {
+        if at >= disk.blocks() {
+            return Err("short")?;
+        }
+        let mut back = Block::zero(alloc)?;
+        disk.read(at, &mut back)?;
+        Ok(back.bytes() == block.bytes())
     }
 
     #[test]
     fn two_blocks_of_a_rough_file(rt: HostRuntime) -> Result<(), Fail> {
         let path = "casper_disk_rough_test";
-        let file = fs::OpenOptions::new()
-            .read(true)
-            .write(true)
-            .create(true)
-            .truncate(true)
-            .open(&rt, path)?;
-        let rough = RoughFile {
-            file,
-            interrupts: Cell::new(false),
-            failing_syncs: Cell::new(1),
-        };
-        let mut disk = FileDisk::over(rough, 2);
-        let mut first = Block::zero(rt.alloc())?;
-        fill(&mut first, 3);
-        let mut second = Block::zero(rt.alloc())?;
-        fill(&mut second, 7);
-        assert!(rt; disk.blocks() == 2);
-        assert_eq!(rt; disk.write(1, &second), Ok(()));
-        assert_eq!(rt; disk.write(0, &first), Ok(()));
-        assert_eq!(rt; disk.faults(), 0);
-        assert_eq!(rt; disk.sync(), Err(DiskFault::Failed));
-        assert_eq!(rt; disk.faults(), 1);
-        assert_eq!(rt; disk.sync(), Ok(()));
-        let mut back = Block::zero(rt.alloc())?;
-        assert_eq!(rt; disk.read(0, &mut back), Ok(()));
-        assert!(rt; back.bytes() == first.bytes());
-        assert_eq!(rt; disk.read(1, &mut back), Ok(()));
-        assert!(rt; back.bytes() == second.bytes());
-        assert_eq!(rt; disk.faults(), 1);
+        let mut disk = rough(&rt, path, 0)?;
+        let first = filled(rt.alloc(), 3)?;
+        let second = filled(rt.alloc(), 7)?;
+        write_two(&mut disk, [&first, &second])?;
+        let kept = [
+            has(rt.alloc(), &mut disk, 0, &first)?,
+            has(rt.alloc(), &mut disk, 1, &second)?,
+        ];
         fs::remove_file(&rt, path)?;
+        assert_eq!(rt; kept, [true; 2]);
         Ok(())
+    }
+
+    #[test]
+    fn counts_a_failing_sync(rt: HostRuntime) -> Result<(), Fail> {
+        let path = "casper_disk_syncs_test";
+        let mut disk = rough(&rt, path, 1)?;
+        let answers = [disk.sync(), disk.sync()];
+        fs::remove_file(&rt, path)?;
+        let want = ([Err(DiskFault::Failed), Ok(())], 1);
+        assert_eq!(rt; (answers, disk.faults()), want);
+        Ok(())
+    }
+
+    /// What a read of the first block answers.
+    fn read_first<D: Disk>(alloc: Global, disk: &mut D) -> Result<Result<(), DiskFault>, Fail> {
+        if disk.blocks() < 1 {
+            return Err("short")?;
+        }
+        let mut block = Block::zero(alloc)?;
+        Ok(disk.read(0, &mut block))
     }
 
     #[test]
@@ -256,10 +297,9 @@ mod tests {
         file.set_len(8191)?;
         let mut disk = FileDisk::new(fs::open(&rt, path)?)?;
         file.set_len(0)?;
-        let mut block = Block::zero(rt.alloc())?;
-        assert!(rt; disk.blocks() == 1);
-        assert_eq!(rt; disk.read(0, &mut block), Err(DiskFault::Failed));
+        let answer = read_first(rt.alloc(), &mut disk)?;
         fs::remove_file(&rt, path)?;
+        assert_eq!(rt; (answer, disk.blocks()), (Err(DiskFault::Failed), 1));
         Ok(())
     }
 }

@@ -146,41 +146,83 @@ mod tests {
     use casper_words::Block;
     use std::test::Fail;
 
+    /// Makes a file of two blocks, and writes this byte at the end of the second. What an opening answers before it is closed.
+    fn make<R: Files<File = File>>(
+        alloc: Global,
+        shelf: &mut FileShelf<R>,
+        name: &[u8],
+        byte: u8,
+    ) -> Result<Option<ShelfFault>, Fail> {
+        let mut block = Block::zero(alloc)?;
+        block.put(4095, &[byte]);
+        let Ok(mut disk) = shelf.make(alloc, name, 2) else {
+            return Err("make")?;
+        };
+        if disk.blocks() != 2 {
+            return Err("blocks")?;
+        }
+        disk.write(1, &block)?;
+        disk.sync()?;
+        let taken = shelf.open(alloc, name).err();
+        shelf.close(name, disk);
+        Ok(taken)
+    }
+
+    /// The byte at the end of a block of the file.
+    fn byte_of<R: Files<File = File>>(
+        alloc: Global,
+        shelf: &mut FileShelf<R>,
+        name: &[u8],
+        at: u32,
+    ) -> Result<u8, Fail> {
+        let mut block = Block::zero(alloc)?;
+        let Ok(mut disk) = shelf.open(alloc, name) else {
+            return Err("open")?;
+        };
+        if at >= disk.blocks() {
+            return Err("blocks")?;
+        }
+        disk.read(at, &mut block)?;
+        Ok(block.bytes()[4095])
+    }
+
     #[test]
     fn keeps_files(rt: HostRuntime) -> Result<(), Fail> {
         let path = "casper_disk_shelf_test";
         let name = path.as_bytes();
+        let alloc = rt.alloc();
         let _old = fs::remove_file(&rt, path);
         let mut shelf = FileShelf::new(rt.clone()?);
-        assert!(rt; matches!(shelf.open(rt.alloc(), name), Err(ShelfFault::NoSuch)));
-        let mut block = Block::zero(rt.alloc())?;
-        block.put(4095, &[7]);
-        match shelf.make(rt.alloc(), name, 2) {
-            Ok(mut disk) => {
-                assert!(rt; disk.blocks() == 2);
-                assert_eq!(rt; disk.write(1, &block), Ok(()));
-                assert_eq!(rt; disk.sync(), Ok(()));
-                assert!(rt;
-                    matches!(shelf.open(rt.alloc(), name), Err(ShelfFault::Failed)),
-                    "it is out"
-                );
-                shelf.close(name, disk);
-            }
-            Err(_fault) => assert!(rt; false),
-        }
-        assert!(rt; matches!(shelf.make(rt.alloc(), name, 2), Err(ShelfFault::Exists)));
-        let mut back = Block::zero(rt.alloc())?;
-        match shelf.open(rt.alloc(), name) {
-            Ok(mut disk) => {
-                assert!(rt; disk.blocks() == 2);
-                assert_eq!(rt; disk.read(0, &mut back), Ok(()));
-                assert_eq!(rt; back.bytes()[4095], 0);
-                assert_eq!(rt; disk.read(1, &mut back), Ok(()));
-            }
-            Err(_fault) => assert!(rt; false),
-        }
-        assert_eq!(rt; back.bytes()[4095], 7);
+        let taken = make(alloc, &mut shelf, name, 7)?;
+        let first = byte_of(alloc, &mut shelf, name, 0)?;
+        let second = byte_of(alloc, &mut shelf, name, 1)?;
         fs::remove_file(&rt, path)?;
+        assert_eq!(rt; (taken, first, second), (Some(ShelfFault::Failed), 0, 7));
+        Ok(())
+    }
+
+    /// What a making and an opening answer, where the file is there or not.
+    fn answers<R: Files<File = File>>(
+        alloc: Global,
+        shelf: &mut FileShelf<R>,
+        name: &[u8],
+    ) -> [Option<ShelfFault>; 2] {
+        let made = shelf.make(alloc, name, 1).err();
+        [made, shelf.open(alloc, name).err()]
+    }
+
+    #[test]
+    fn knows_what_is_there(rt: HostRuntime) -> Result<(), Fail> {
+        let path = "casper_disk_names_test";
+        let name = path.as_bytes();
+        let _old = fs::remove_file(&rt, path);
+        let mut shelf = FileShelf::new(rt.clone()?);
+        let missing = shelf.open(rt.alloc(), name).err();
+        let _made = answers(rt.alloc(), &mut shelf, name);
+        let there = answers(rt.alloc(), &mut shelf, name);
+        fs::remove_file(&rt, path)?;
+        let want = (Some(ShelfFault::NoSuch), [Some(ShelfFault::Exists), None]);
+        assert_eq!(rt; (missing, there), want);
         Ok(())
     }
 }

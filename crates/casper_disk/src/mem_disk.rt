@@ -2,7 +2,7 @@ ghost use Rattle.std.specs.Prelude.{◌≡◌, ◌||◌, ◌==◌, ◌+◌, ◌-
 ghost use Rattle.std.proofs.Common.{inl, refl};
 ghost use Rattle.casper_words.specs.Count.{FaultCountRose};
 ghost use Rattle.casper_disk.specs.declared.fail.Kind.TheVariants as kind;
-ghost use Rattle.casper_disk.specs.Disk.{block_at, none_loose, with_loose, AgreesBut, Elapses, KeepsImages};
+ghost use Rattle.casper_disk.specs.Disk.{block_at, none_loose, with_loose, IsLooseWithin, AgreesBut, Elapses, KeepsImages};
 ghost use Rattle.casper_disk.specs.Record.{only_left_now, since_earlier, agrees_itself, content_at};
 ghost use Rattle.casper_disk.specs.Stopped.{settled_before, stop_moment, began, loose_within};
 ghost use Rattle.casper_disk.specs.Plan.{count_of, fails_next};
@@ -264,7 +264,7 @@ impl Disk for MemDisk {
         ensures size { length self.new.content ≡ length self.old.content }
         ensures written { OnOk result (self.new.content ≡ slice_set self.old.content at from.now) }
         ensures others { AgreesBut (λ other. other == at) self.old.content self.new.content }
-        ensures loose { held_loose self.new ≡ with_loose at (held_loose self.old) }
+        ensures loose { IsLooseWithin (with_loose at (held_loose self.old)) (held_loose self.new) }
         ensures images { Elapses (length self.old.steps) (length self.new.steps)
             (held_since self.old) (held_since self.new)
             (with_loose at (held_loose self.old)) self.old.content }
@@ -293,7 +293,8 @@ impl Disk for MemDisk {
         ensures size { length self.new.content ≡ length self.old.content }
         ensures content { self.new.content ≡ self.old.content }
         ensures settled { OnOk result (held_loose self.new ≡ none_loose) }
-        ensures unsettled { OnErr result (held_loose self.new ≡ held_loose self.old) }
+        ensures unsettled { OnErr result
+            (IsLooseWithin (held_loose self.old) (held_loose self.new)) }
         ensures images { Elapses (length self.old.steps) (length self.new.steps)
             (held_since self.old) (held_since self.new)
             (held_loose self.old) self.old.content }
@@ -338,137 +339,138 @@ mod tests {
     use std::process::Abort;
     use std::test;
 
+    fn listed(kind: Kind, number: u64) -> Fail {
+        Fail { kind, number }
+    }
+
+    /// Makes a call of the second block.
+    fn call(rt: &impl Abort, disk: &mut MemDisk, block: &mut Block, kind: Kind) -> bool {
+        assert!(rt; disk.blocks() > 1);
+        let answer = match kind {
+            Kind::Read => disk.read(1, block),
+            Kind::Write => disk.write(1, block),
+            Kind::Sync => disk.sync(),
+        };
+        answer.is_ok()
+    }
+
+    /// The third sync is past the room.
     #[test]
     fn listed_calls_fail(rt: HostRuntime) -> Result<(), test::Fail> {
         let mut disk = MemDisk::new(rt.alloc(), 2, 4)?;
-        let read = Fail {
-            kind: Kind::Read,
-            number: 2,
-        };
-        let write = Fail {
-            kind: Kind::Write,
-            number: 1,
-        };
-        let sync = Fail {
-            kind: Kind::Sync,
-            number: 2,
-        };
-        disk.arm(&[read, write, sync], 4)?;
+        let fails = [
+            listed(Kind::Read, 2),
+            listed(Kind::Write, 1),
+            listed(Kind::Sync, 2),
+        ];
+        disk.arm(&fails, 4)?;
         let mut block = Block::zero(rt.alloc())?;
-        assert!(rt; disk.blocks() == 2);
-        assert_eq!(rt; disk.read(1, &mut block), Ok(()));
-        assert_eq!(rt; disk.read(1, &mut block), Err(DiskFault::Failed));
-        assert_eq!(rt; disk.write(1, &block), Err(DiskFault::Failed));
-        assert_eq!(rt; disk.write(1, &block), Ok(()));
-        assert_eq!(rt; disk.sync(), Ok(()));
-        assert_eq!(rt; disk.sync(), Err(DiskFault::Failed));
-        assert_eq!(rt; disk.sync(), Err(DiskFault::Failed), "past the room");
-        assert_eq!(rt; disk.count(Kind::Sync), 3);
+        let table = [
+            (Kind::Read, true),
+            (Kind::Read, false),
+            (Kind::Write, false),
+            (Kind::Write, true),
+            (Kind::Sync, true),
+            (Kind::Sync, false),
+            (Kind::Sync, false),
+        ];
+        for (kind, done) in table {
+            assert_eq!(rt; call(&rt, &mut disk, &mut block, kind), done);
+        }
         Ok(())
     }
 
     /// Writes this byte at both ends of the first block.
-    fn mark(
-        rt: &impl Abort,
-        disk: &mut MemDisk,
-        block: &mut Block,
-        byte: u8,
-    ) -> Result<(), DiskFault> {
+    fn mark(rt: &impl Abort, disk: &mut MemDisk, block: &mut Block, byte: u8) -> bool {
         assert!(rt; disk.blocks() > 0);
         block.put(0, &[byte]);
         block.put(4095, &[byte]);
-        disk.write(0, block)
+        disk.write(0, block).is_ok()
     }
 
-    /// The bytes that a stop leaves at both ends of the first block.
-    fn ends(
+    /// The bytes at both ends of the first block.
+    fn ends(rt: &impl Abort, alloc: Global, disk: &mut MemDisk) -> Result<[u8; 2], Memory> {
+        let mut block = Block::zero(alloc)?;
+        assert!(rt; disk.blocks() > 0);
+        assert_eq!(rt; disk.read(0, &mut block), Ok(()));
+        Ok([block.bytes()[0], block.bytes()[4095]])
+    }
+
+    /// The bytes that a stop leaves there.
+    fn ends_left(
         rt: &impl Abort,
         alloc: Global,
         disk: &MemDisk,
         call: u64,
         pick: Pick,
     ) -> Result<[u8; 2], Memory> {
-        let most = disk
-            .count(Kind::Write)
-            .saturating_add(disk.count(Kind::Sync));
+        let writes = disk.count(Kind::Write);
+        let most = writes.saturating_add(disk.count(Kind::Sync));
         assert!(rt; 1 <= call && call <= most.saturating_add(1));
         let mut left = disk.stopped(alloc, call, pick)?;
+        ends(rt, alloc, &mut left)
+    }
+
+    /// A stop within the call leaves the first byte with `Pick::Old`, the second one with `Pick::New`, and of a torn block both.
+    fn leaves(
+        rt: &impl Abort,
+        alloc: Global,
+        disk: &MemDisk,
+        call: u64,
+        bytes: [u8; 2],
+    ) -> Result<(), Memory> {
+        let [old, new] = bytes;
+        let left = [
+            ends_left(rt, alloc, disk, call, Pick::Old)?,
+            ends_left(rt, alloc, disk, call, Pick::New)?,
+            ends_left(rt, alloc, disk, call, Pick::Torn(9))?,
+        ];
+        assert_eq!(rt; left, [[old, old], [new, new], [new, 9]], "at {call}");
+        Ok(())
+    }
+
+    /// Writes 1 and 2, syncs, and writes 3.
+    fn written(rt: &impl Abort, alloc: Global) -> Result<MemDisk, Memory> {
+        let mut disk = MemDisk::new(alloc, 1, 8)?;
         let mut block = Block::zero(alloc)?;
-        assert!(rt; left.blocks() > 0);
-        assert_eq!(rt; left.read(0, &mut block), Ok(()));
-        Ok([block.bytes()[0], block.bytes()[4095]])
+        let _first = mark(rt, &mut disk, &mut block, 1);
+        let _second = mark(rt, &mut disk, &mut block, 2);
+        let _synced = disk.sync();
+        let _third = mark(rt, &mut disk, &mut block, 3);
+        Ok(disk)
     }
 
     #[test]
     fn stops(rt: HostRuntime) -> Result<(), test::Fail> {
-        let mut disk = MemDisk::new(rt.alloc(), 1, 8)?;
-        let mut block = Block::zero(rt.alloc())?;
-        assert_eq!(rt; mark(&rt, &mut disk, &mut block, 1), Ok(()));
-        assert_eq!(rt; mark(&rt, &mut disk, &mut block, 2), Ok(()));
-        assert_eq!(rt; disk.sync(), Ok(()));
-        assert_eq!(rt; mark(&rt, &mut disk, &mut block, 3), Ok(()));
-        let table = [
-            (1, Pick::Old, [0, 0]),
-            (1, Pick::New, [1, 1]),
-            (1, Pick::Torn(9), [1, 9]),
-            (2, Pick::Old, [0, 0]),
-            (2, Pick::New, [2, 2]),
-            (2, Pick::Torn(9), [2, 9]),
-            (3, Pick::Old, [0, 0]),
-            (3, Pick::New, [2, 2]),
-            (3, Pick::Torn(9), [2, 9]),
-            (4, Pick::Old, [2, 2]),
-            (4, Pick::New, [3, 3]),
-            (4, Pick::Torn(9), [3, 9]),
-            (5, Pick::Old, [2, 2]),
-            (5, Pick::New, [3, 3]),
-            (5, Pick::Torn(9), [3, 9]),
-        ];
-        for (call, pick, want) in table {
-            assert_eq!(rt;
-                ends(&rt, rt.alloc(), &disk, call, pick)?,
-                want,
-                "at {call}"
-            );
+        let disk = written(&rt, rt.alloc())?;
+        let table = [(1, [0, 1]), (2, [0, 2]), (3, [0, 2]), (4, [2, 3])];
+        for (call, bytes) in table {
+            leaves(&rt, rt.alloc(), &disk, call, bytes)?;
         }
+        leaves(&rt, rt.alloc(), &disk, 5, [2, 3])?;
         Ok(())
     }
 
     /// The block is loose as the second record begins, and has 1 at the last sync before it. The first write of that record
     /// fails, and its bytes are used all the same.
+    fn written_in_two_records(rt: &impl Abort, alloc: Global) -> Result<MemDisk, Memory> {
+        let mut disk = MemDisk::new(alloc, 1, 8)?;
+        let mut block = Block::zero(alloc)?;
+        let _first = mark(rt, &mut disk, &mut block, 1);
+        let _synced = disk.sync();
+        let _second = mark(rt, &mut disk, &mut block, 2);
+        disk.arm(&[listed(Kind::Write, 1)], 8)?;
+        let _failed = mark(rt, &mut disk, &mut block, 3);
+        let _settled = disk.sync();
+        let _last = mark(rt, &mut disk, &mut block, 4);
+        Ok(disk)
+    }
+
     #[test]
     fn stops_in_a_second_record(rt: HostRuntime) -> Result<(), test::Fail> {
-        let mut disk = MemDisk::new(rt.alloc(), 1, 8)?;
-        let mut block = Block::zero(rt.alloc())?;
-        assert_eq!(rt; mark(&rt, &mut disk, &mut block, 1), Ok(()));
-        assert_eq!(rt; disk.sync(), Ok(()));
-        assert_eq!(rt; mark(&rt, &mut disk, &mut block, 2), Ok(()));
-        let write = Fail {
-            kind: Kind::Write,
-            number: 1,
-        };
-        disk.arm(&[write], 8)?;
-        assert_eq!(rt; mark(&rt, &mut disk, &mut block, 3), Err(DiskFault::Failed));
-        assert_eq!(rt; disk.sync(), Ok(()));
-        assert_eq!(rt; mark(&rt, &mut disk, &mut block, 4), Ok(()));
-        let table = [
-            (1, Pick::Old, [1, 1]),
-            (1, Pick::New, [3, 3]),
-            (1, Pick::Torn(9), [3, 9]),
-            (2, Pick::Old, [1, 1]),
-            (2, Pick::New, [3, 3]),
-            (2, Pick::Torn(9), [3, 9]),
-            (3, Pick::Old, [3, 3]),
-            (3, Pick::New, [4, 4]),
-            (3, Pick::Torn(9), [4, 9]),
-            (4, Pick::Old, [3, 3]),
-        ];
-        for (call, pick, want) in table {
-            assert_eq!(rt;
-                ends(&rt, rt.alloc(), &disk, call, pick)?,
-                want,
-                "at {call}"
-            );
+        let disk = written_in_two_records(&rt, rt.alloc())?;
+        for (call, bytes) in [(1, [1, 3]), (2, [1, 3]), (3, [3, 4]), (4, [3, 4])] {
+            leaves(&rt, rt.alloc(), &disk, call, bytes)?;
         }
         Ok(())
     }

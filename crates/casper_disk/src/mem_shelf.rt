@@ -172,37 +172,60 @@ impl Shelf for MemShelf {
 #[cfg(test)]
 mod tests {
     use super::*;
-    use crate::{Disk, DiskFault};
+    use crate::Disk;
     use casper_words::Block;
     use std::test::Fail;
 
+    /// What an opening answers, whose disk is dropped.
+    fn refusal(alloc: Global, shelf: &mut MemShelf, name: &[u8]) -> Option<ShelfFault> {
+        shelf.open(alloc, name).err()
+    }
+
+    /// Makes a disk of two blocks, writes this byte at the start of the second, and closes it.
+    fn make(alloc: Global, shelf: &mut MemShelf, name: &[u8], byte: u8) -> Result<(), Fail> {
+        let mut block = Block::zero(alloc)?;
+        block.put(0, &[byte]);
+        let Ok(mut disk) = shelf.make(alloc, name, 2) else {
+            return Err("make")?;
+        };
+        disk.write(1, &block)?;
+        shelf.close(name, disk);
+        Ok(())
+    }
+
+    /// The byte at the start of the second block of what is opened.
+    fn byte_of(alloc: Global, shelf: &mut MemShelf, name: &[u8]) -> Result<u8, Fail> {
+        let mut block = Block::zero(alloc)?;
+        let Ok(mut disk) = shelf.open(alloc, name) else {
+            return Err("open")?;
+        };
+        if disk.blocks() < 2 {
+            return Err("short")?;
+        }
+        disk.read(1, &mut block)?;
+        Ok(block.bytes()[0])
+    }
+
     #[test]
     fn opens_what_was_closed(rt: HostRuntime) -> Result<(), Fail> {
-        let mut shelf = MemShelf::new(rt.alloc(), 1, &[3, 5])?;
-        assert!(rt; matches!(shelf.open(rt.alloc(), b"a"), Err(ShelfFault::NoSuch)));
-        let mut block = Block::zero(rt.alloc())?;
-        block.put(0, &[7]);
-        if let Ok(mut disk) = shelf.make(rt.alloc(), b"a", 2) {
-            assert_eq!(rt; disk.write(1, &block), Ok(()));
-            shelf.close(b"a", disk);
-        }
-        assert!(rt; matches!(shelf.make(rt.alloc(), b"b", 2), Err(ShelfFault::Failed)));
-        assert!(rt; matches!(shelf.make(rt.alloc(), b"a", 2), Err(ShelfFault::Exists)));
-        assert!(rt; matches!(shelf.open(rt.alloc(), b"a"), Err(ShelfFault::Failed)));
-        let mut back = Block::zero(rt.alloc())?;
-        match shelf.open(rt.alloc(), b"a") {
-            Ok(mut disk) => {
-                assert!(rt; disk.blocks() == 2);
-                assert_eq!(rt; disk.read(1, &mut back), Ok(()));
-                assert_eq!(rt;
-                    disk.write(1, &back),
-                    Err(DiskFault::Failed),
-                    "past the room"
-                );
-            }
-            Err(_fault) => assert!(rt; false),
-        }
-        assert_eq!(rt; back.bytes()[0], 7);
+        let alloc = rt.alloc();
+        let mut shelf = MemShelf::new(alloc, 1, &[])?;
+        make(alloc, &mut shelf, b"a", 7)?;
+        assert_eq!(rt; byte_of(alloc, &mut shelf, b"a")?, 7);
+        Ok(())
+    }
+
+    /// The second call that comes to the listed ones is to fail.
+    #[test]
+    fn refuses_by_names_and_then_by_the_list(rt: HostRuntime) -> Result<(), Fail> {
+        let alloc = rt.alloc();
+        let mut shelf = MemShelf::new(alloc, 1, &[3])?;
+        make(alloc, &mut shelf, b"a", 7)?;
+        let missing = refusal(alloc, &mut shelf, b"b");
+        let failed = refusal(alloc, &mut shelf, b"a");
+        let exists = shelf.make(alloc, b"a", 2).err();
+        let want = [ShelfFault::NoSuch, ShelfFault::Failed, ShelfFault::Exists];
+        assert_eq!(rt; [missing, failed, exists], want.map(Some));
         Ok(())
     }
 }

@@ -1,7 +1,7 @@
 use Rattle.std.proofs.Common.{◌<◌, ◌∙◌, length, refl, ap, arith, length-append}
 use Rattle.casper_disk.specs.MemDisk.{Held}
 use Rattle.casper_disk.specs.declared.step.Step.TheVariants as step
-use Rattle.casper_disk.proofs.CallLemmas.{step_keeps}
+use Rattle.casper_disk.proofs.CallLemmas.{step_keeps, all_within}
 use Rattle.casper_disk.proofs.RecordLemmas.{none_marked, synced_loose, unsynced_loose, synced_elapses, unsynced_elapses, refused_elapses}
 use Rattle.casper_disk.proofs.mem_disk.MemDiskDisk.sync.Goals as goal
 
@@ -11,8 +11,8 @@ returns-in_default-clause-images c =
 
 pub returns-then-fails-clause-unsettled : goal.returns-then-fails-clause-unsettled
 returns-then-fails-clause-unsettled c =
-    rw (← c.self.view_is)
-    (unsynced_loose c.self.inside.steps.items c.push_reserved.new.self.items c.self.inside.marks.items c.push_reserved.ensures.items)
+    all_within _ _ (rw (← c.self.view_is)
+    (unsynced_loose c.self.inside.steps.items c.push_reserved.new.self.items c.self.inside.marks.items c.push_reserved.ensures.items))
 
 pub returns-then-fails-clause-images : goal.returns-then-fails-clause-images
 returns-then-fails-clause-images c =

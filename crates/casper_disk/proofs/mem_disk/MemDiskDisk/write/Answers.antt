@@ -2,7 +2,7 @@ use Rattle.std.proofs.Common.{◌≡◌, ◌<◌, true, length, set, refl, ◌�
 use Rattle.std.proofs.lemmas.List.{get_or_read, length-set}
 use Rattle.casper_disk.specs.MemDisk.{Held}
 use Rattle.casper_disk.specs.declared.step.Step.TheVariants as step
-use Rattle.casper_disk.proofs.CallLemmas.{step_keeps}
+use Rattle.casper_disk.proofs.CallLemmas.{step_keeps, all_within}
 use Rattle.casper_disk.proofs.RecordLemmas.{none_marked, wrote_loose, missed_loose, missed_elapses, wrote_elapses, written_back}
 use Rattle.casper_disk.proofs.mem_disk.MemDiskDisk.write.Goals as goal
 
@@ -10,8 +10,8 @@ pub returns-in_default-clause-loose : goal.returns-in_default-clause-loose
 returns-in_default-clause-loose c =
     let size : length c.self.inside.blocks.items ≡ length c.args.self.now.content = ap (λ (disk : Held). length disk.content) c.self.view_is in
     let within : c.args.at < length c.self.inside.marks.items = omega arith in
-    rw (← c.self.view_is)
-    (missed_loose c.self.inside.steps.items c.self.inside.marks.items (set c.self.inside.marks.items c.args.at true) c.args.at within refl)
+    all_within _ _ (rw (← c.self.view_is)
+    (missed_loose c.self.inside.steps.items c.self.inside.marks.items (set c.self.inside.marks.items c.args.at true) c.args.at within refl))
 
 pub returns-in_default-clause-images : goal.returns-in_default-clause-images
 returns-in_default-clause-images c =
@@ -22,8 +22,8 @@ returns-in_default-clause-images c =
 
 pub returns-clause-loose : goal.returns-clause-loose
 returns-clause-loose c =
-    rw (← c.self.view_is)
-    (wrote_loose c.self.inside.steps.items c.push_reserved.new.self.items c.self.inside.marks.items c.args.at c.copy_from.new.self c.push_reserved.ensures.items)
+    all_within _ _ (rw (← c.self.view_is)
+    (wrote_loose c.self.inside.steps.items c.push_reserved.new.self.items c.self.inside.marks.items c.args.at c.copy_from.new.self c.push_reserved.ensures.items))
 
 pub returns-clause-images : goal.returns-clause-images
 returns-clause-images c =
