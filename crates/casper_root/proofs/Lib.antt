@@ -4,8 +4,5 @@ pub mod OpeningLemmas
 pub mod FormatLemmas
 pub mod ChoiceLemmas
 pub mod RootLemmas
-pub mod OpeningLawsLemmas
 pub mod WrittenLemmas
-pub mod NextBodyLemmas
-pub mod WritingLemmas
 pub mod PartLemmas

@@ -1,10 +1,9 @@
-use Rattle.std.proofs.Common.{◌≡◌, ℕ, ◌+◌, ◌<◌, ◌≤◌, List, ◌++◌, length, ◌∙◌, ap, sym, Bool, arith}
+use Rattle.std.proofs.Common.{◌≡◌, ℕ, ◌+◌, ◌<◌, ◌≤◌, List, ◌++◌, length, ◌∙◌, ap, sym, Bool}
 use Rattle.std.specs.Prelude.{Result, Ok, Err, IsErrAnd, nat_lt}
 use Rattle.std.proofs.lemmas.Bool.{lt-ltb, le-ltb}
 use Rattle.casper_disk.specs.Disk.{block_at}
 use Rattle.casper_root.specs.declared.fault.OpenFault.{OpenFault}
 use Rattle.casper_root.specs.declared.fault.OpenFault.TheVariants as fault
-use Rattle.casper_root.specs.declared.found.Found.{Found}
 use Rattle.casper_root.specs.declared.header.Header.{Header}
 use Rattle.casper_root.specs.declared.roots.Roots.{Roots}
 use Rattle.casper_root.specs.Opening.{opened, count_refusals, header_refusals, header_of, room_refusals, root_refusals, roots_found, current_root}

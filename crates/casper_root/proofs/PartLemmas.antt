@@ -1,5 +1,5 @@
-use Rattle.std.proofs.Common.{◌≡◌, ℕ, Bool, true, false, List, [], ◌∷◌, ◌++◌, length, refl, sym, ◌∙◌, ap, subst, inl, inr}
-use Rattle.std.specs.Prelude.{◌⊎◌, Result, Ok, Err}
+use Rattle.std.proofs.Common.{◌≡◌, ℕ, Bool, true, false, List, [], ◌∷◌, ◌++◌, length, refl, sym, ◌∙◌, ap, inl, inr}
+use Rattle.std.specs.Prelude.{Result, Ok, Err}
 use Rattle.casper_disk.specs.Disk.{block_at}
 use Rattle.casper_root.specs.Format.{map_blocks_of}
 use Rattle.casper_root.specs.Opening.{opened, count_refusals, header_refusals, room_refusals, root_refusals, pair_refusals, header_of, roots_found, current_in}
@@ -7,7 +7,6 @@ use Rattle.casper_root.specs.Parts.{opened_header, opened_pair, under, root_unde
 use Rattle.casper_root.specs.Refusal.{first_refusal, Answers}
 use Rattle.casper_root.specs.declared.current_root.CurrentRoot.{CurrentRoot}
 use Rattle.casper_root.specs.declared.fault.OpenFault.{OpenFault}
-use Rattle.casper_root.specs.declared.fault.OpenFault.TheVariants as fault
 use Rattle.casper_root.specs.declared.found.Found.{Found}
 use Rattle.casper_root.specs.declared.header.Header.{Header}
 use Rattle.casper_root.specs.declared.roots.Roots.{Roots}

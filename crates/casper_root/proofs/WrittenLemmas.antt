@@ -7,21 +7,21 @@ use Rattle.casper_root.specs.Choice.{is_open}
 use Rattle.casper_root.specs.Fitting.{AreSizes}
 use Rattle.casper_root.specs.Format.{header_block, body_block, open_gate_block, zero_block, map_blocks_of}
 use Rattle.casper_root.specs.Opening.{has_name, version_of, are_sizes, header_of, header_refusals, roots_found, body_in, body_found, is_spare_closed, is_body_of, as_body}
-use Rattle.casper_root.specs.OpeningLaws.{OpenedAsWritten}
+use Rattle.casper_root.specs.FormatLaws.{OpenedAsWritten}
 use Rattle.casper_root.specs.Spare.{is_gate_open}
 use Rattle.casper_root.specs.Refusal.{first_refusal}
 use Rattle.casper_root.specs.Slots.{body_place, gate_place, other_slot}
 use Rattle.casper_root.specs.declared.body.Body.{Body}
 use Rattle.casper_root.specs.declared.fault.OpenFault.{OpenFault}
 use Rattle.casper_root.specs.declared.fault.OpenFault.TheVariants as fault
+use Rattle.casper_root.specs.declared.found.Found.{Found}
 use Rattle.casper_root.specs.declared.found.FoundBody.{FoundBody}
 use Rattle.casper_root.specs.declared.header.Header.{Header}
 use Rattle.casper_root.specs.declared.roots.Roots.{Roots}
 use Rattle.casper_root.specs.declared.slot.Slot.{Slot}
 use Rattle.casper_root.specs.declared.slot.Slot.TheVariants as slot
-use Rattle.casper_root.proofs.ChoiceLemmas.{picked_alone}
+use Rattle.casper_root.proofs.ChoiceLemmas.{open_in, picked_alone}
 use Rattle.casper_root.proofs.FormatLemmas.{headers_are_read, bodies_are_read, gates_are_read}
-use Rattle.casper_root.proofs.OpeningLawsLemmas.{spare_is}
 use Rattle.casper_root.proofs.OpeningLemmas.{opened_root}
 use Rattle.casper_root.proofs.RefusalLemmas.{pass_three}
 use Rattle.casper_root.proofs.RootLemmas.{opened_roots, few_maps, roots_open}
@@ -41,15 +41,15 @@ gate_in_place blocks slot.A = refl
 gate_in_place blocks slot.B = refl
 
 -- a gate that was written as open is open
-pub gate_was_opened : (blocks : List (List ℕ)) (at : Slot) → block_at blocks (gate_place at) ≡ open_gate_block → is_gate_open blocks at ≡ true
+gate_was_opened : (blocks : List (List ℕ)) (at : Slot) → block_at blocks (gate_place at) ≡ open_gate_block → is_gate_open blocks at ≡ true
 gate_was_opened blocks at written = gate_in_place blocks at ∙ ap (λ (block : List ℕ). is_open (slice_index block 0)) written ∙ gates_are_read.0
 
 -- a gate of zeros is closed
-pub gate_was_closed : (blocks : List (List ℕ)) (at : Slot) → block_at blocks (gate_place at) ≡ zero_block → is_gate_open blocks at ≡ false
+gate_was_closed : (blocks : List (List ℕ)) (at : Slot) → block_at blocks (gate_place at) ≡ zero_block → is_gate_open blocks at ≡ false
 gate_was_closed blocks at zeros = gate_in_place blocks at ∙ ap (λ (block : List ℕ). is_open (slice_index block 0)) zeros ∙ gates_are_read.1
 
 -- a body is read from its block
-pub body_is_read : (blocks : List (List ℕ)) (at : Slot) (body : Body) (pages : ℕ) → block_at blocks (body_place at) ≡ body_block body → pages ≤ 16384 → body.seq ≤ 281474976710655
+body_is_read : (blocks : List (List ℕ)) (at : Slot) (body : Body) (pages : ℕ) → block_at blocks (body_place at) ≡ body_block body → pages ≤ 16384 → body.seq ≤ 281474976710655
     → length body.maps ≡ map_blocks_of pages → ((k : ℕ) → slice_index body.maps k < 2 ^ 32) → (body_in (roots_found blocks) at ≡ found_of body) × (as_body (found_of body) ≡ body)
 body_is_read blocks at body pages written few most maps numbers =
     let read = bodies_are_read body (omega (arith, most)) (few_maps pages (length body.maps) few maps) numbers in
@@ -81,6 +81,11 @@ header_passes header sizes =
           (not_from_true (has_name block) read.0) (not_from_true (version_of block == 1) (eq-eqb (version_of block) 1 read.1)) (not_from_true (are_sizes (header_of block)) right) ∙ ap answer read.2,
       read.2,
     )
+
+-- the spare gate is that of the other slot
+spare_is : (found : Found) (at : Slot) → is_spare_closed found at ≡ not (open_in found (other_slot at))
+spare_is found slot.A = refl
+spare_is found slot.B = refl
 
 pub opened_as_written : OpenedAsWritten
 opened_as_written blocks roots is =

@@ -4,10 +4,8 @@ pub mod Fitting
 pub mod Format
 pub mod FormatLaws
 pub mod Opening
-pub mod OpeningLaws
 pub mod Reading
 pub mod Refusal
 pub mod Slots
 pub mod Spare
-pub mod WritingLaws
 pub mod Parts

@@ -1,36 +1,19 @@
-use Rattle.std.specs.Prelude.{◌≡◌, ◌⊎◌, ◌↔◌, ◌<◌, ◌≤◌, ◌^◌, ℕ, Bool, true, false, List, length, nat_le, slice_index, Ok}
-use Rattle.casper_disk.specs.Disk.{AgreesBut, block_at, with_loose}
+use Rattle.std.specs.Prelude.{◌≡◌, ◌<◌, ◌≤◌, ◌^◌, ℕ, Bool, true, false, List, length, slice_index}
+use Rattle.casper_disk.specs.Disk.{block_at}
 use Rattle.casper_root.specs.Choice.{is_open, of_slot}
 use Rattle.casper_root.specs.Fitting.{Fits}
 use Rattle.casper_root.specs.Format.{zero_block, header_block, body_block, open_gate_block, map_blocks_of}
-use Rattle.casper_root.specs.Opening.{opened, roots_found, body_in}
+use Rattle.casper_root.specs.Opening.{roots_found}
 use Rattle.casper_root.specs.Slots.{body_place, gate_place, other_slot}
 use Rattle.casper_root.specs.declared.body.Body.{Body}
-use Rattle.casper_root.specs.declared.found.FoundBody.{FoundBody}
 use Rattle.casper_root.specs.declared.header.Header.{Header}
 use Rattle.casper_root.specs.declared.roots.Roots.{Roots}
 use Rattle.casper_root.specs.declared.slot.Slot.{Slot}
 use Rattle.casper_root.specs.declared.slot.Slot.TheVariants as slot
 
--- a block of a frame, after the fixed ones
-abbrev pub is_of_frame : ℕ → Bool
-is_of_frame at = nat_le 5 at
-
 -- whether the gate of a slot is open
 abbrev pub is_gate_open : List (List ℕ) → Slot → Bool
 is_gate_open blocks at = is_open (of_slot at (roots_found blocks).gate_a (roots_found blocks).gate_b)
-
--- what stands in the body of a slot
-abbrev pub body_found_in : List (List ℕ) → Slot → FoundBody
-body_found_in blocks at = body_in (roots_found blocks) at
-
--- the image has the same blocks but in frames and in the body of the spare root
-abbrev pub AgreesBesideBody : Roots → List (List ℕ) → List (List ℕ) → Type 0
-AgreesBesideBody roots blocks image = AgreesBut (with_loose (body_place (other_slot roots.slot)) is_of_frame) blocks image
-
--- the image has the same blocks but in frames and in the gate of the spare root
-abbrev pub AgreesBesideGate : Roots → List (List ℕ) → List (List ℕ) → Type 0
-AgreesBesideGate roots blocks image = AgreesBut (with_loose (gate_place (other_slot roots.slot)) is_of_frame) blocks image
 
 -- the same root, with the spare gate closed or not
 abbrev pub with_spare : Bool → Roots → Roots
@@ -44,10 +27,6 @@ succeeded_by body roots = record { header = roots.header; slot = other_slot root
 abbrev pub IsBehind : Slot → ℕ → ℕ → Type 0
 IsBehind slot.A spare_seq seq = spare_seq ≤ seq
 IsBehind slot.B spare_seq seq = spare_seq < seq
-
--- the spare root is not the current one, whatever its gate
-abbrev pub IsSpareBehind : List (List ℕ) → Roots → Type 0
-IsSpareBehind blocks roots = IsBehind roots.slot (body_found_in blocks (other_slot roots.slot)).seq roots.body.seq
 
 -- the header and a root of a store were written, and its spare gate is closed
 pub record IsWritten (blocks : List (List ℕ)) (roots : Roots) : Type 0 where
@@ -65,21 +44,3 @@ pub record IsNext (header : Header) (seq : ℕ) (body : Body) : Type 0 where
   pub most_seq : body.seq ≤ 281474976710655
   pub maps : length body.maps ≡ map_blocks_of header.pages
   pub numbers : (k : ℕ) → slice_index body.maps k < 2 ^ 32
-
--- the spare body is a next one of the same store
-pub record IsNextBody (blocks : List (List ℕ)) (roots : Roots) (body : Body) : Type 0 where
-  pub written : block_at blocks (body_place (other_slot roots.slot)) ≡ body_block body
-  pub next : IsNext roots.header roots.body.seq body
-
--- the spare gate decides: but in frames and in that gate the blocks are some that open to the root and have a next body
-pub record IsDecidedByGate (roots : Roots) (body : Body) (blocks : List (List ℕ)) : Type 0 where
-  pub base : List (List ℕ)
-  pub opens : opened base ≡ Ok roots
-  pub next : IsNextBody base roots body
-  pub agrees : AgreesBesideGate roots base blocks
-
--- the image opens to the old root or to the new one, and to the new one exactly where the gate is open
-pub record OpensByGate (gate_open : Bool) (image : List (List ℕ)) (old new : Roots) : Type 0 where
-  pub either : opened image ≡ Ok old ⊎ opened image ≡ Ok new
-  pub new_where_open : (gate_open ≡ true) ↔ (opened image ≡ Ok new)
-  pub old_where_closed : (gate_open ≡ false) ↔ (opened image ≡ Ok old)

@@ -21,7 +21,7 @@ pub use body::Body;
 pub use current_root::CurrentRoot;
 pub use fault::OpenFault;
 pub use header::Header;
-pub use laws::{format_laws, opening_laws, part_laws, writing_laws};
+pub use laws::{format_laws, part_laws};
 pub use maps::Maps;
 pub use opening::{open_header, open_pair, open_roots};
 pub use pair::{Pair, read_pair};

@@ -1,7 +1,7 @@
 ghost use Rattle.std.specs.Prelude.{◌≡◌, ◌==◌, ◌<◌, ◌≤◌, slice_set, IsTrue, OnOk, OnErr};
 ghost use Rattle.casper_words.specs.Count.{FaultCountRose};
-ghost use Rattle.casper_disk.specs.Disk.{none_loose, with_loose, AgreesBut};
-ghost use Rattle.casper_root.specs.Added.{AddsWrites, IsLooseWithin};
+ghost use Rattle.casper_disk.specs.Disk.{none_loose, with_loose, IsLooseWithin, AgreesBut};
+ghost use Rattle.casper_root.specs.Added.{AddsWrites};
 ghost use Rattle.casper_root.specs.Format.{zero_block, open_gate_block, body_block};
 ghost use Rattle.casper_root.specs.Slots.{body_place, gate_place};
 
