@@ -3,10 +3,9 @@ use Rattle.std.specs.Prelude.{Option, Some, None, not, slice_index, option_map}
 use Rattle.std.proofs.lemmas.Option.{none-some}
 use Rattle.std.proofs.lemmas.Bool.{or_parts, or_from, eq-eqb}
 use Rattle.std.proofs.lemmas.Bool.Decides.{eqb_tells}
-use Rattle.casper_disk.specs.Disk.{AgreesBut, block_at, none_loose, with_loose}
+use Rattle.casper_disk.specs.Disk.{AgreesBut, block_at, none_loose, with_loose, IsLooseWithin}
 use Rattle.casper_disk.specs.Record.{agrees_itself}
 use Rattle.casper_disk.proofs.RecordLemmas.{agrees_less}
-use Rattle.casper_root.specs.Added.{IsLooseWithin}
 use Rattle.casper_root.specs.Choice.{is_open}
 use Rattle.casper_root.specs.Slots.{body_place, gate_place, other_slot}
 use Rattle.casper_root.specs.Spare.{IsBehind}

@@ -1,6 +1,5 @@
 use Rattle.std.specs.Prelude.{◌≡◌, not, ℕ, Bool, true, false, List, Some}
-use Rattle.casper_disk.specs.Disk.{AgreesBut, none_loose}
-use Rattle.casper_root.specs.Added.{IsLooseWithin}
+use Rattle.casper_disk.specs.Disk.{AgreesBut, IsLooseWithin, none_loose}
 use Rattle.casper_root.specs.Slots.{other_slot}
 use Rattle.casper_commit.specs.declared.standing.Standing.{Standing}
 use Rattle.casper_commit.specs.Root.{Root, has_open_gate, body_at, root_in, standing_in}

@@ -1,6 +1,5 @@
 use Rattle.std.specs.Prelude.{◌≡◌, ◌⊎◌, ◌<◌, ◌&&◌, ◌||◌, ℕ, Bool, true, false, List, Some, nat_le}
-use Rattle.casper_disk.specs.Disk.{AgreesBut, with_loose}
-use Rattle.casper_root.specs.Added.{IsLooseWithin}
+use Rattle.casper_disk.specs.Disk.{AgreesBut, IsLooseWithin, with_loose}
 use Rattle.casper_root.specs.Slots.{body_place, gate_place, other_slot}
 use Rattle.casper_root.specs.Spare.{IsBehind}
 use Rattle.casper_root.specs.declared.slot.Slot.{Slot}

@@ -1,3 +1,2 @@
-mod noted;
 mod order;
 mod stops;

@@ -120,7 +120,7 @@ pub only_same : {D : Type 0} (content : D → List (List ℕ)) (loose : D → �
     → IsOnlyRead content loose moment images_since disk disk
 only_same content loose moment images_since disk = record {
   same_content = refl;
-  same_loose = refl;
+  within_loose = λ at out. out;
   images = record { moment = refl; only = λ at image since. since; keeps = λ at image since. since };
 }
 
@@ -128,7 +128,7 @@ pub only_then : {D : Type 0} (content : D → List (List ℕ)) (loose : D → �
     → IsOnlyRead content loose moment images_since old mid → IsOnlyRead content loose moment images_since mid new → IsOnlyRead content loose moment images_since old new
 only_then content loose moment images_since old mid new one two = record {
   same_content = two.same_content ∙ one.same_content;
-  same_loose = two.same_loose ∙ one.same_loose;
+  within_loose = λ at out. two.within_loose at (one.within_loose at out);
   images = record {
     moment = two.images.moment ∙ one.images.moment;
     only = λ at image since. one.images.only at image (two.images.only at image since);

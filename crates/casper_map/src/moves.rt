@@ -5,10 +5,11 @@ use casper_words::Memory;
 use std::alloc::Global;
 use std::marker::Model;
 
-/// Pages or map blocks with their new frames. Contracts see the list of the pairs.
+/// Pages or map blocks with their new frames. Both numbers fit 16 bits, so that a store in doubt of all its pages stays small.
+/// Contracts see the list of the pairs.
 #[derive(Drop)]
 pub struct Moves {
-    list: Vec<(u32, u32)>,
+    list: Vec<(u16, u16)>,
 }
 
 impl Model for Moves {
@@ -21,7 +22,7 @@ impl Model for Moves {
 
 impl Moves {
     /// Moves each of these to the frame at its place.
-    pub(crate) fn new(alloc: Global, targets: &[u32], frames: &[u32]) -> Result<Moves, Memory>
+    pub(crate) fn new(alloc: Global, targets: &[u16], frames: &[u16]) -> Result<Moves, Memory>
         requires { length targets.now ≡ length frames.now }
         ensures moved { IfOk result (λ moves. moved moves ≡ targets.now) }
         ensures frames { IfOk result (λ moves. frames_in moves ≡ frames.now) }
@@ -34,7 +35,7 @@ impl Moves {
     }
 
     /// The pairs, in rising order of what moves.
-    pub fn as_slice(&self) -> &[(u32, u32)]
+    pub fn as_slice(&self) -> &[(u16, u16)]
         ensures { result.now ≡ self.now }
     {
         self.list.as_slice()

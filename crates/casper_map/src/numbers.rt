@@ -21,10 +21,13 @@ pub(crate) fn frame_in(number: u32) -> Option<u32>
 }
 
 /// The number that stands for a frame or for none.
-pub(crate) fn number_of(frame: Option<u32>) -> u32
+pub(crate) fn number_of(frame: Option<u16>) -> u32
     ensures { result ≡ number_of frame }
 {
-    frame.unwrap_or(NO_FRAME)
+    match frame {
+        Some(frame) => frame as u32,
+        None => NO_FRAME,
+    }
 }
 
 /// The numbers of a map block.

@@ -41,7 +41,7 @@ impl ShadowMap {
     }
 
     /// The lowest free frames, as many as are asked for.
-    fn lowest_free(&self, alloc: Global, count: u32) -> Result<Vec<u32>, Memory>
+    fn lowest_free(&self, alloc: Global, count: u32) -> Result<Vec<u16>, Memory>
         requires { count ≤ length (free_frames self.now) }
         ensures { IfOk result (λ frames. frames.items ≡ take count (free_frames self.now)) }
     {
@@ -51,7 +51,7 @@ impl ShadowMap {
             let Some(frame) = self.named.next_free(from) else {
                 unreachable!()
             };
-            frames.push(frame)?;
+            frames.push(frame as u16)?;
             from = frame + 1;
         }
         Ok(frames)
@@ -99,14 +99,14 @@ impl ShadowMap {
     }
 
     /// Makes moves of the places from one on.
-    fn move_all(&mut self, first: u32, moves: &[(u32, u32)])
+    fn move_all(&mut self, first: u32, moves: &[(u16, u16)])
         requires within { AreWithin first self.old.places moves.now }
         requires new_frames { AreNew self.old.frames self.old.places moves.now }
         ensures { self.new
             ≡ record self.old { places = with_moves first moves.now self.old.places } }
     {
         for (target, frame) in moves {
-            self.move_to(first as usize + *target as usize, *frame);
+            self.move_to(first as usize + *target as usize, *frame as u32);
         }
     }
 
@@ -126,31 +126,33 @@ impl ShadowMap {
 }
 
 /// Puts the new frames of moves into a list of numbers, of which the first is that of a page or map block.
-fn put_moves(moves: &[(u32, u32)], first: u32, numbers: &mut [u32])
+fn put_moves(moves: &[(u16, u16)], first: u32, numbers: &mut [u32])
     ensures { (places : List (Option ℕ)) (base : ℕ) → AreWithin base places moves.now
         → Show places (base + first) numbers.old
         → Show (with_moves base moves.now places) (base + first) numbers.new }
 {
     for (target, frame) in moves {
-        if *target >= first && ((*target - first) as usize) < numbers.len() {
-            numbers[(*target - first) as usize] = *frame;
+        let target = *target as u32;
+        if target >= first && ((target - first) as usize) < numbers.len() {
+            numbers[(target - first) as usize] = *frame as u32;
         }
     }
 }
 
 /// The numbers of pages.
-fn numbers_of_pages(alloc: Global, pages: &[Page]) -> Result<Vec<u32>, Memory>
+fn numbers_of_pages(alloc: Global, pages: &[Page]) -> Result<Vec<u16>, Memory>
+    requires { All (λ page. page < 16384) pages.now }
     ensures { IfOk result (λ numbers. numbers.items ≡ pages.now) }
 {
     let mut numbers = Vec::with_capacity(alloc, pages.len())?;
     for page in pages {
-        numbers.push(page.0)?;
+        numbers.push(page.0 as u16)?;
     }
     Ok(numbers)
 }
 
 /// The map blocks of pages in rising order.
-fn blocks_under(alloc: Global, pages: &[u32]) -> Result<Vec<u32>, Memory>
+fn blocks_under(alloc: Global, pages: &[u16]) -> Result<Vec<u16>, Memory>
     requires { IsStrictlyIncreasing pages.now }
     ensures blocks { IfOk result (λ blocks. blocks.items ≡ blocks_of pages.now) }
     ensures few { IfOk result (λ blocks. vec_len blocks ≤ length pages.now) }
@@ -159,9 +161,9 @@ fn blocks_under(alloc: Global, pages: &[u32]) -> Result<Vec<u32>, Memory>
     // No block from this one on is in the list yet.
     let mut next = 0;
     for page in pages {
-        let block = *page / Maps::PAGES_EACH;
+        let block = *page as u32 / Maps::PAGES_EACH;
         if block >= next {
-            blocks.push(block)?;
+            blocks.push(block as u16)?;
             next = block + 1;
         }
     }

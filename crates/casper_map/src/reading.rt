@@ -76,7 +76,7 @@ impl ShadowMap {
         let Some(frame) = self.places[number as usize] else {
             return Ok(());
         };
-        disk.read(5 + frame, block)?;
+        disk.read(5 + frame as u32, block)?;
         let numbers = numbers_of(block);
         let page = Maps::PAGES_EACH * number;
         let count = NUMBERS.min((self.pages() - page) as usize);

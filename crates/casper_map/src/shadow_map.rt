@@ -15,8 +15,8 @@ use std::marker::Model;
 /// first, and the number of frames.
 #[derive(Drop)]
 pub struct ShadowMap {
-    /// The frames of the map blocks and after them those of the pages.
-    pub(crate) places: Vec<Option<u32>>,
+    /// The frames of the map blocks and after them those of the pages. The number of a frame fits 16 bits.
+    pub(crate) places: Vec<Option<u16>>,
     /// The place of page 0, which is the number of map blocks.
     pub(crate) first_page: u32,
     /// The frames that a place has.
@@ -80,7 +80,10 @@ impl ShadowMap {
         ensures frame { result ≡ frame_at self.now.places (self.now.first_page + page) }
         ensures in_range { AreBelow self.now.frames self.now.places }
     {
-        self.places[(self.first_page + page.0) as usize]
+        match self.places[(self.first_page + page.0) as usize] {
+            Some(frame) => Some(frame as u32),
+            None => None,
+        }
     }
 
     /// The number of frames.
@@ -127,7 +130,7 @@ impl ShadowMap {
         }
         self.named.insert(frame);
         self.used += 1;
-        self.places[place] = Some(frame);
+        self.places[place] = Some(frame as u16);
         Ok(())
     }
 
@@ -140,10 +143,10 @@ impl ShadowMap {
             ≡ record self.old { places = slice_set self.old.places place (Some frame) } }
     {
         match self.places[place] {
-            Some(old) => self.named.remove(old),
+            Some(old) => self.named.remove(old as u32),
             None => self.used += 1,
         }
         self.named.insert(frame);
-        self.places[place] = Some(frame);
+        self.places[place] = Some(frame as u16);
     }
 }

@@ -1,8 +1,8 @@
 use Rattle.std.proofs.Common.{◌≡◌, ◌≤◌, ℕ, Bool, List, sym, ◌∙◌, ap, subst, inl, inr}
 use Rattle.std.specs.Prelude.{None, Result, Ok, Err, IsErrAnd, IfErr}
 use Rattle.std.proofs.lemmas.Option.{none-some}
-use Rattle.casper_disk.specs.Disk.{AgreesBut, Elapses, none_loose}
-use Rattle.casper_disk.proofs.TookLemmas.{took_standing, took_then}
+use Rattle.casper_disk.specs.Disk.{AgreesBut, Elapses, IsLooseWithin, none_loose}
+use Rattle.casper_disk.proofs.TookLemmas.{took_standing, took_then, took_weaker}
 use Rattle.casper_root.specs.Fitting.{Fits}
 use Rattle.casper_root.specs.Opening.{opened}
 use Rattle.casper_root.specs.Reading.{IsOnlyRead}
@@ -69,6 +69,14 @@ pub read_adds : {D : Type 0} (content : D → List (List ℕ)) (loose : D → �
 read_adds content loose moment images_since old new read agrees =
     took_standing (moment old) (moment new) (images_since old) (images_since new) (AgreesBut (loose old) (content old)) read.images agrees
 
+-- what agrees but in some blocks agrees but in more
+agrees_within : (most loose : ℕ → Bool) (blocks image : List (List ℕ)) → IsLooseWithin most loose → AgreesBut loose blocks image
+    → AgreesBut most blocks image
+agrees_within most loose blocks image within agrees = record {
+  count = agrees.count;
+  same = λ at out. agrees.same at (within at out);
+}
+
 -- nor does a sync after it
 pub sync_adds : {D : Type 0} (content : D → List (List ℕ)) (loose : D → ℕ → Bool) (moment : D → ℕ) (images_since : D → ℕ
     → List (List ℕ) → Type 0) (old between new : D)
@@ -77,13 +85,15 @@ pub sync_adds : {D : Type 0} (content : D → List (List ℕ)) (loose : D → �
     → ((earlier later : ℕ) (image : List (List ℕ)) → earlier ≤ later → images_since new later image → images_since new earlier image)
     → AddsNoWrites content loose moment images_since between new → AddsNoWrites content loose moment images_since old new
 sync_adds content loose moment images_since old between new read agrees counts synced =
-    let may : (ℕ → Bool) → List (List ℕ)
-    → Type 0 = λ some blocks. Elapses (moment between) (moment new) (images_since between) (images_since new) some blocks in
+    let may : List (List ℕ)
+    → Type 0 = λ blocks. Elapses (moment between) (moment new) (images_since between) (images_since new) (loose old) blocks in
     took_then (moment old) (moment between) (moment new) (images_since old) (images_since between) (images_since new) (AgreesBut
     (loose old) (content old)) counts
     (read_adds content loose moment images_since old between read agrees)
-    (subst (λ (blocks : List (List ℕ)). may (loose old) blocks) read.same_content (subst (λ (some : ℕ
-    → Bool). may some (content between)) read.same_loose synced))
+    (subst may read.same_content
+    (took_weaker (moment between) (moment new) (images_since between) (images_since new) (AgreesBut (loose between) (content between)) (AgreesBut
+    (loose old) (content between))
+    (λ image agrees. agrees_within (loose old) (loose between) (content between) image read.within_loose agrees) synced))
 
 -- what holds of a fault holds where `?` handed it on
 pub handed_on : {T : Type 0} (result : Result T OpenFault) (why : OpenFault) (P : OpenFault → Type 0)

@@ -1,6 +1,6 @@
 ghost use Rattle.std.specs.Prelude.{◌≡◌, ◌≤◌, None, Ok, Err, IsTrue, IfOk, IfErr, OnOk, OnErr};
 ghost use Rattle.casper_words.specs.Count.{FaultCountRose};
-ghost use Rattle.casper_disk.specs.Disk.{none_loose};
+ghost use Rattle.casper_disk.specs.Disk.{none_loose, IsLooseWithin};
 ghost use Rattle.casper_root.specs.Reading.{IsOnlyRead};
 ghost use Rattle.casper_stable.specs.Opened.{shown, IsRefusalOf, DiskMeets, OpenTo, AddsNoWrites};
 ghost use Rattle.casper_stable.specs.Kept.{roots_in};
@@ -44,8 +44,8 @@ impl<D: Disk> Stable<D> {
             (λ after. D.content after ≡ D.content disk) }
         ensures settled { IsTrue D.tells →
             IfOk result (λ stable. D.loose (kept_by stable).disk ≡ none_loose) }
-        ensures unsettled { IsTrue D.tells →
-            IfErr result (λ refused. D.loose refused.0 ≡ D.loose disk) }
+        ensures unsettled { IsTrue D.tells → IfErr result
+            (λ refused. IsLooseWithin (D.loose disk) (D.loose refused.0)) }
         ensures images { IsTrue D.tells → DiskMeets (λ stable. (kept_by stable).disk) result
             (AddsNoWrites D.content D.loose D.moment D.images_since disk) }
         ensures counted { IfErr result (λ refused. refused.1 ≡ OpenFault.Disk →
@@ -96,7 +96,8 @@ fn read_settled<D: Disk>(alloc: Global, disk: &mut D) -> Result<Found, OpenFault
     ensures leads { D.leads_to disk.old disk.new }
     ensures content { IsTrue D.tells → D.content disk.new ≡ D.content disk.old }
     ensures settled { IsTrue D.tells → OnOk result (D.loose disk.new ≡ none_loose) }
-    ensures unsettled { IsTrue D.tells → OnErr result (D.loose disk.new ≡ D.loose disk.old) }
+    ensures unsettled { IsTrue D.tells →
+        OnErr result (IsLooseWithin (D.loose disk.old) (D.loose disk.new)) }
     ensures images { IsTrue D.tells →
         AddsNoWrites D.content D.loose D.moment D.images_since disk.old disk.new }
     ensures counted { result ≡ Err OpenFault.Disk

@@ -29,14 +29,14 @@ impl<'a> Model for Written<'a> {
 }
 
 /// The frame at a place of those of the pages and after them those of the map blocks.
-fn frame_at(pages: &[(u32, u32)], maps: &[(u32, u32)], at: usize) -> u32
+fn frame_at(pages: &[(u16, u16)], maps: &[(u16, u16)], at: usize) -> u32
     requires { at < length pages.now + length maps.now }
     ensures { result ≡ slice_index (frames_in pages.now ++ frames_in maps.now) at }
 {
     if at < pages.len() {
-        pages[at].1
+        pages[at].1 as u32
     } else {
-        maps[at - pages.len()].1
+        maps[at - pages.len()].1 as u32
     }
 }
 
@@ -69,7 +69,7 @@ impl<'a> Pieces for Written<'a> {
             frame.to_block(into);
         } else {
             let (number, _frame) = plan.maps.as_slice()[at - pages.len()];
-            self.map.map_block(plan, number, into);
+            self.map.map_block(plan, number as u32, into);
         }
     }
 }

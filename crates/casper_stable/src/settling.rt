@@ -8,6 +8,7 @@ ghost use Rattle.casper_map.specs.Planned.{Planned, moved, with_plan};
 ghost use Rattle.casper_words.specs.Count.{FaultCountRose};
 ghost use Rattle.casper_stable.specs.Kept.{changes_written, image_of, next_body};
 ghost use Rattle.casper_stable.specs.Leaves.{Leaves};
+ghost use Rattle.casper_stable.specs.Others.{OthersKeepFrames};
 ghost use Rattle.casper_stable.specs.Sound.{IsKept, IsHeld};
 
 use crate::store::Store;
@@ -44,6 +45,8 @@ impl<D: Disk> Store<D> {
             (D.images_since self.new.disk past))
             (IsOldOrNewImage (image_of D.content self.old) self.old.body.seq
             (changes_written (D.content self.old.disk) plan) (self.old.body.seq + 1)) }
+        ensures frames { (plan : Planned) → self.old.doubt ≡ Some plan
+            → OnOk result (OthersKeepFrames (moved plan.pages) self.old.held self.new.held) }
         ensures size { page_count self.new.held ≡ page_count self.old.held }
         ensures room { (plan : Planned) → self.old.doubt ≡ Some plan
             → OnOk result (room_of self.new.held

@@ -1,7 +1,6 @@
 mod commits;
 mod files;
 mod images;
-mod noted;
 mod opening;
 
 use crate::Stable;

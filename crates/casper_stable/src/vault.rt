@@ -4,13 +4,13 @@ ghost use Rattle.casper_words.specs.Count.{FaultCountRose};
 ghost use Rattle.casper_space.specs.Changes.{pages_of, with_changes};
 ghost use Rattle.casper_disk.specs.CommitFaults.{is_of_disk};
 ghost use Rattle.casper_disk.specs.Disk.{KeepsImages, Took};
-ghost use Rattle.casper_disk.specs.Vault.{IsOldOrNewImage, as_changes, is_worn, lacking, room_with, version_after};
+ghost use Rattle.casper_disk.specs.Vault.{IsOldOrNewImage, as_changes, changes_in, is_worn, lacking, room_settled, room_with, version_after, version_settled};
 ghost use Rattle.casper_commit.specs.GateMoment.{CallsGate, FailsAtGate};
 ghost use Rattle.casper_map.specs.Mapped.{page_count};
 ghost use Rattle.casper_stable.specs.Kept.{image_of, store_room, doubt_of};
 ghost use Rattle.casper_stable.specs.KeptBy.{kept_by};
 ghost use Rattle.casper_stable.specs.Leaves.{Leaves, KeptLeadsTo};
-ghost use Rattle.casper_stable.specs.Others.{OthersKeepFrames, OthersKeepWords};
+ghost use Rattle.casper_stable.specs.Others.{OthersKeepFrames, OthersKeepWords, pages_in_doubt};
 ghost use Rattle.casper_stable.specs.UntilGate.{LeavesOldAlone, OldUntilGate};
 ghost use Rattle.casper_stable.specs.VaultLaws.{image_count, page_filled, sure_law, either_law, one_law, leaves_more, leads_itself, leads_further};
 
@@ -121,6 +121,7 @@ impl<D: Disk> Vault for Stable<D> {
             (kept_by self.new).disk) (kept_by self.old).disk (kept_by self.new).disk }
         ensures frames { OnOk result (OthersKeepFrames (pages_of (as_changes changes.now))
             (kept_by self.old).held (kept_by self.new).held) }
+        ensures same_frames { OnErr result ((kept_by self.new).held ≡ (kept_by self.old).held) }
         ensures words { IsTrue D.tells → OnOk result
             (OthersKeepWords (pages_of (as_changes changes.now))
             (image_of D.content (kept_by self.old)) (image_of D.content (kept_by self.new))) }
@@ -137,7 +138,46 @@ impl<D: Disk> Vault for Stable<D> {
         Ok(self.store.version())
     }
 
-    fn settle(&mut self) -> Result<u64, DiskFault> {
+    // The clauses of `Vault`, and after them what becomes of the frames of pages.
+    fn settle(&mut self) -> Result<u64, DiskFault>
+        ensures answer { IfOk result (λ number. number ≡ (kept_by self.new).body.seq) }
+        ensures version { OnOk result ((kept_by self.new).body.seq
+            ≡ version_settled (doubt_of D.content (kept_by self.old)) (kept_by self.old).body.seq) }
+        ensures sure { OnOk result (doubt_of D.content (kept_by self.new) ≡ None) }
+        ensures image { IsTrue D.tells → OnOk result (image_of D.content (kept_by self.new)
+            ≡ with_changes (image_of D.content (kept_by self.old))
+            (changes_in (doubt_of D.content (kept_by self.old)))) }
+        ensures room { IsTrue D.tells → OnOk result (store_room (kept_by self.new)
+            ≡ room_settled (doubt_of D.content (kept_by self.old))
+            (store_room (kept_by self.old))) }
+        ensures in_doubt { OnErr result (IsSome (doubt_of D.content (kept_by self.old))) }
+        ensures doubtful { OnErr result (IsSome (doubt_of D.content (kept_by self.new))) }
+        ensures same_doubt { IsTrue D.tells → OnErr result
+            (doubt_of D.content (kept_by self.new) ≡ doubt_of D.content (kept_by self.old)) }
+        ensures same_version { OnErr result ((kept_by self.new).body.seq
+            ≡ (kept_by self.old).body.seq) }
+        ensures same_image { IsTrue D.tells → OnErr result
+            (image_of D.content (kept_by self.new) ≡ image_of D.content (kept_by self.old)) }
+        ensures same_room { OnErr result (store_room (kept_by self.new)
+            ≡ store_room (kept_by self.old)) }
+        ensures size { page_count (kept_by self.new).held ≡ page_count (kept_by self.old).held }
+        ensures counted { OnErr result (FaultCountRose
+            (D.faults (kept_by self.old).disk) (D.faults (kept_by self.new).disk)) }
+        ensures never_falls { D.faults (kept_by self.old).disk
+            ≤ D.faults (kept_by self.new).disk }
+        ensures images { IsTrue D.tells
+            → Took (D.moment (kept_by self.old).disk) (D.moment (kept_by self.new).disk)
+            (λ past. Leaves (D.images_since (kept_by self.old).disk past))
+            (λ past. Leaves (D.images_since (kept_by self.new).disk past))
+            (IsOldOrNewImage (image_of D.content (kept_by self.old)) (kept_by self.old).body.seq
+            (changes_in (doubt_of D.content (kept_by self.old)))
+            (version_settled (doubt_of D.content (kept_by self.old))
+            (kept_by self.old).body.seq)) }
+        ensures leads { KeptLeadsTo D.leads_to (kept_by self.old) (kept_by self.new) }
+        ensures frames { OnOk result (OthersKeepFrames (pages_in_doubt (kept_by self.old).doubt)
+            (kept_by self.old).held (kept_by self.new).held) }
+        ensures same_frames { OnErr result ((kept_by self.new).held ≡ (kept_by self.old).held) }
+    {
         if !self.store.in_doubt() {
             return Ok(self.store.version());
         }

@@ -1,17 +1,12 @@
 ghost use Rattle.std.specs.Prelude.{◌≡◌, ◌+◌};
 
-use crate::tests::noted::{Call, Noted};
 use crate::{Pieces, Standing, put_frames, put_root, settle};
-use casper_disk::{CommitFault, DiskFault};
+use casper_disk::{Call, CommitFault, Disk, DiskFault, Fail as Failing, Kind, MemDisk, Noted};
 use casper_root::Slot;
-use casper_words::Block;
+use casper_words::{Block, Memory};
+use std::alloc::Global;
 use std::process::Abort;
 use std::test::Fail;
-
-const FIRST: Standing = Standing {
-    slot: Slot::A,
-    spare_closed: false,
-};
 
 /// Three data frames and a map frame, all with the same bytes.
 #[derive(Drop)]
@@ -39,23 +34,58 @@ impl Pieces for Frames {
     }
 }
 
-/// The frames, and the root that names them.
-fn commit(
-    disk: &mut Noted,
-    block: &mut Block,
-    standing: &mut Standing,
-    frames: &Frames,
-) -> Result<(), CommitFault> {
-    if put_frames(disk, block, frames).is_err() {
-        return Err(CommitFault::Disk);
+/// The current root is in slot A, and the gate of slot B is known to be closed or not.
+fn in_a(spare_closed: bool) -> Standing {
+    Standing {
+        slot: Slot::A,
+        spare_closed,
     }
-    put_root(disk, block, standing, &frames.block)
 }
 
-/// The calls that were made, in their order.
-fn calls<'a>(rt: &impl Abort, disk: &'a Noted) -> &'a [Call] {
-    assert!(rt; disk.count <= 16);
-    &disk.calls[..disk.count]
+/// The current root is in slot B, and nothing is known of the gate of slot A.
+fn in_b() -> Standing {
+    Standing {
+        slot: Slot::B,
+        spare_closed: false,
+    }
+}
+
+/// A disk of 13 blocks of which these calls fail.
+fn disk_with(alloc: Global, fails: &[Failing]) -> Result<Noted<MemDisk>, Memory> {
+    let mut disk = MemDisk::new(alloc, 13, 0)?;
+    disk.arm(fails, 16)?;
+    Noted::new(alloc, disk, 16)
+}
+
+/// The frames, and the root that names them.
+fn commit<D: Disk>(
+    rt: &impl Abort,
+    alloc: Global,
+    disk: &mut D,
+    standing: &mut Standing,
+) -> Result<Result<(), CommitFault>, Memory> {
+    let mut block = Block::zero(alloc)?;
+    let frames = Frames {
+        block: Block::zero(alloc)?,
+    };
+    assert!(rt; disk.blocks() == 13);
+    if put_frames(disk, &mut block, &frames).is_err() {
+        return Ok(Err(CommitFault::Disk));
+    }
+    Ok(put_root(disk, &mut block, standing, &frames.block))
+}
+
+/// A commit from this standing, of which these calls fail: its answer, its calls, and where the root stands then.
+fn committed(
+    rt: &impl Abort,
+    alloc: Global,
+    from: Standing,
+    fails: &[Failing],
+) -> Result<(Result<(), CommitFault>, Noted<MemDisk>, Standing), Memory> {
+    let mut disk = disk_with(alloc, fails)?;
+    let mut standing = from;
+    let answer = commit(rt, alloc, &mut disk, &mut standing)?;
+    Ok((answer, disk, standing))
 }
 
 #[test]
@@ -72,23 +102,10 @@ fn makes_the_calls_of_the_table(rt: HostRuntime) -> Result<(), Fail> {
         Call::Write(4),
         Call::Sync,
     ];
-    let mut block = Block::zero(rt.alloc())?;
-    let frames = Frames {
-        block: Block::zero(rt.alloc())?,
-    };
-    let mut disk = Noted::new(0);
-    let mut standing = FIRST;
+    let (answer, disk, standing) = committed(&rt, rt.alloc(), in_a(false), &[])?;
     assert_eq!(rt;
-        commit(&mut disk, &mut block, &mut standing, &frames),
-        Ok(())
-    );
-    assert_eq!(rt; calls(&rt, &disk), table.as_slice());
-    assert_eq!(rt;
-        standing,
-        Standing {
-            slot: Slot::B,
-            spare_closed: false
-        }
+        (answer, disk.calls(), standing),
+        (Ok(()), table.as_slice(), in_b())
     );
     Ok(())
 }
@@ -96,24 +113,36 @@ fn makes_the_calls_of_the_table(rt: HostRuntime) -> Result<(), Fail> {
 #[test]
 fn leaves_out_the_closing_of_a_gate_that_is_closed(rt: HostRuntime) -> Result<(), Fail> {
     let table = [
+        Call::Write(5),
+        Call::Write(6),
+        Call::Write(7),
+        Call::Write(8),
         Call::Sync,
-        Call::Write(1),
+        Call::Write(3),
         Call::Sync,
-        Call::Write(2),
+        Call::Write(4),
         Call::Sync,
     ];
-    let mut block = Block::zero(rt.alloc())?;
-    let body = Block::zero(rt.alloc())?;
-    let mut disk = Noted::new(0);
-    let mut standing = Standing {
-        slot: Slot::B,
-        spare_closed: true,
-    };
+    let (answer, disk, standing) = committed(&rt, rt.alloc(), in_a(true), &[])?;
     assert_eq!(rt;
-        put_root(&mut disk, &mut block, &mut standing, &body),
-        Ok(())
+        (answer, disk.calls(), standing),
+        (Ok(()), table.as_slice(), in_b())
     );
-    assert_eq!(rt; calls(&rt, &disk), table.as_slice());
+    Ok(())
+}
+
+/// A commit of which a call fails makes as many calls, answers this fault, and knows the gate of slot B to be closed or not.
+fn fails_as(
+    rt: &impl Abort,
+    alloc: Global,
+    fail: (Kind, u64),
+    want: (usize, CommitFault, bool),
+) -> Result<(), Memory> {
+    let (kind, number) = fail;
+    let (calls, fault, closed) = want;
+    let (answer, disk, standing) = committed(rt, alloc, in_a(false), &[Failing { kind, number }])?;
+    let after = (answer, disk.calls().len(), standing);
+    assert_eq!(rt; after, (Err(fault), calls, in_a(closed)));
     Ok(())
 }
 
@@ -122,59 +151,51 @@ fn leaves_out_the_closing_of_a_gate_that_is_closed(rt: HostRuntime) -> Result<()
 #[test]
 fn stops_at_the_call_that_fails(rt: HostRuntime) -> Result<(), Fail> {
     let table = [
-        (1, CommitFault::Disk, false),
-        (4, CommitFault::Disk, false),
-        (5, CommitFault::Disk, false),
-        (6, CommitFault::Disk, false),
-        (7, CommitFault::Disk, true),
-        (8, CommitFault::Disk, true),
-        (9, CommitFault::Doubt, false),
-        (10, CommitFault::Doubt, false),
+        ((Kind::Write, 1), (1, CommitFault::Disk, false)),
+        ((Kind::Write, 4), (4, CommitFault::Disk, false)),
+        ((Kind::Write, 5), (5, CommitFault::Disk, false)),
+        ((Kind::Sync, 1), (6, CommitFault::Disk, false)),
+        ((Kind::Write, 6), (7, CommitFault::Disk, true)),
+        ((Kind::Sync, 2), (8, CommitFault::Disk, true)),
+        ((Kind::Write, 7), (9, CommitFault::Doubt, false)),
+        ((Kind::Sync, 3), (10, CommitFault::Doubt, false)),
     ];
-    let mut block = Block::zero(rt.alloc())?;
-    let frames = Frames {
-        block: Block::zero(rt.alloc())?,
-    };
-    for (call, fault, closed) in table {
-        let mut disk = Noted::new(call);
-        let mut standing = FIRST;
-        assert_eq!(rt;
-            commit(&mut disk, &mut block, &mut standing, &frames),
-            Err(fault),
-            "at {call}"
-        );
-        assert_eq!(rt; disk.count, call);
-        assert_eq!(rt;
-            standing,
-            Standing {
-                slot: Slot::A,
-                spare_closed: closed
-            }
-        );
+    for (fail, want) in table {
+        fails_as(&rt, rt.alloc(), fail, want)?;
     }
     Ok(())
 }
 
+/// A settle: what it answers, and where the root stands then.
+fn settled<D: Disk>(
+    rt: &impl Abort,
+    alloc: Global,
+    disk: &mut D,
+) -> Result<(Result<(), DiskFault>, Standing), Memory> {
+    let mut block = Block::zero(alloc)?;
+    let mut standing = in_a(false);
+    assert!(rt; disk.blocks() == 13);
+    let answer = settle(disk, &mut block, &mut standing);
+    Ok((answer, standing))
+}
+
 #[test]
 fn settles_by_the_gate_and_a_sync(rt: HostRuntime) -> Result<(), Fail> {
-    let mut block = Block::zero(rt.alloc())?;
-    for (call, count, answer) in [
-        (0, 2, Ok(())),
-        (1, 1, Err(DiskFault::Failed)),
-        (2, 2, Err(DiskFault::Failed)),
-    ] {
-        let mut disk = Noted::new(call);
-        let mut standing = FIRST;
-        assert_eq!(rt; settle(&mut disk, &mut block, &mut standing), answer);
-        assert_eq!(rt; calls(&rt, &disk), &[Call::Write(4), Call::Sync][..count]);
-        let slot = if call == 0 { Slot::B } else { Slot::A };
-        assert_eq!(rt;
-            standing,
-            Standing {
-                slot,
-                spare_closed: false
-            }
-        );
+    let mut disk = disk_with(rt.alloc(), &[])?;
+    let after = settled(&rt, rt.alloc(), &mut disk)?;
+    let table = [Call::Write(4), Call::Sync];
+    assert_eq!(rt; (after, disk.calls()), ((Ok(()), in_b()), table.as_slice()));
+    Ok(())
+}
+
+/// A settle that fails leaves the root where it stood.
+#[test]
+fn settles_no_further_than_the_call_that_fails(rt: HostRuntime) -> Result<(), Fail> {
+    for (kind, calls) in [(Kind::Write, 1), (Kind::Sync, 2)] {
+        let mut disk = disk_with(rt.alloc(), &[Failing { kind, number: 1 }])?;
+        let after = settled(&rt, rt.alloc(), &mut disk)?;
+        let want = ((Err(DiskFault::Failed), in_a(false)), calls);
+        assert_eq!(rt; (after, disk.calls().len()), want);
     }
     Ok(())
 }

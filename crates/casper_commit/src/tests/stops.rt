@@ -107,33 +107,41 @@ fn slot_of(rt: &impl Abort, alloc: Global, disk: &mut MemDisk) -> Result<Option<
     Ok(find_root(disk, &mut block)?.map(|standing| standing.slot))
 }
 
+/// The number of the root to which a stop within a call opens. A root of an even number is found in slot B, and else in slot A.
+fn seq_left(
+    rt: &impl Abort,
+    alloc: Global,
+    disk: &MemDisk,
+    call: u64,
+    pick: Pick,
+) -> Result<u64, Fail> {
+    let mut left = left(rt, alloc, disk, call, pick)?;
+    let number = seq_of(alloc, &mut left)?;
+    let slot = if number % 2 == 0 { Slot::B } else { Slot::A };
+    assert_eq!(rt; slot_of(rt, alloc, &mut left)?, Some(slot));
+    Ok(number)
+}
+
+/// The numbers for each pick.
+fn seqs_left(rt: &impl Abort, alloc: Global, disk: &MemDisk, call: u64) -> Result<[u64; 3], Fail> {
+    let old = seq_left(rt, alloc, disk, call, Pick::Old)?;
+    let new = seq_left(rt, alloc, disk, call, Pick::New)?;
+    let torn = seq_left(rt, alloc, disk, call, Pick::Torn(9))?;
+    Ok([old, new, torn])
+}
+
+/// Calls 1 to 4 write frames, 5 closes the spare gate, 6 syncs, 7 writes the body, 8 syncs, 9 opens the gate, 10 syncs; 11 is after
+/// the last.
 #[test]
 fn stops_within_the_second_commit(rt: HostRuntime) -> Result<(), Fail> {
     let disk = twice_committed(&rt, rt.alloc())?;
-    assert_eq!(rt; (disk.count(Kind::Write), disk.count(Kind::Sync)), (7, 3));
-    let table = [
-        (1, [2, 2, 2]),
-        (2, [2, 2, 2]),
-        (3, [2, 2, 2]),
-        (4, [2, 2, 2]),
-        (5, [2, 2, 2]),
-        (6, [2, 2, 2]),
-        (7, [2, 2, 2]),
-        (8, [2, 2, 2]),
-        (9, [2, 3, 3]),
-        (10, [2, 3, 3]),
-        (11, [3, 3, 3]),
-    ];
-    for (call, want) in table {
-        for (pick, number) in [Pick::Old, Pick::New, Pick::Torn(9)]
-            .iter()
-            .zip(want.iter())
-        {
-            let mut disk = left(&rt, rt.alloc(), &disk, call, *pick)?;
-            let slot = if *number == 2 { Slot::B } else { Slot::A };
-            assert_eq!(rt; seq_of(rt.alloc(), &mut disk), Ok(*number), "at {call}");
-            assert_eq!(rt; slot_of(&rt, rt.alloc(), &mut disk)?, Some(slot));
-        }
+    for call in 1_u64..12 {
+        let want = match call {
+            1..=8 => [2; 3],
+            9 | 10 => [2, 3, 3],
+            _ => [3; 3],
+        };
+        assert_eq!(rt; seqs_left(&rt, rt.alloc(), &disk, call)?, want, "at {call}");
     }
     Ok(())
 }

@@ -269,7 +269,7 @@ fn commit_one<D: Disk>(
 }
 
 /// Commits zeros to page 0 and to the first page of the second map block.
-fn commit_two<D: Disk>(
+pub fn commit_two<D: Disk>(
     rt: &impl Abort,
     alloc: Global,
     stable: &mut Stable<D>,

@@ -1,9 +1,9 @@
 use crate::Stable;
-use crate::tests::noted::{Call, Noted};
+use crate::tests::commits::commit_two;
 use crate::tests::{formatted, opened};
-use casper_disk::{Disk, Fail as Failing, Kind, MemDisk};
+use casper_disk::{Call, Disk, Fail as Failing, Kind, MemDisk, Noted, Vault};
 use casper_root::OpenFault;
-use casper_words::Block;
+use casper_words::{Block, Frame, Memory, Page};
 use std::alloc::Global;
 use std::process::Abort;
 use std::test::Fail;
@@ -196,22 +196,23 @@ fn refuses_sizes_before_blocks(rt: HostRuntime) -> Result<(), Fail> {
     Ok(())
 }
 
-/// The disk after a format of which one call may fail.
-fn format_noted(alloc: Global, failing: usize) -> Noted {
-    match Stable::format(alloc, Noted::new(failing), 1024, 3) {
-        Ok(stable) => stable.into_disk(),
-        Err((disk, _)) => disk,
+/// The disk after a format of which a call of this number fails.
+fn format_noted(alloc: Global, kind: Kind, number: u64) -> Result<Noted<MemDisk>, Fail> {
+    let mut disk = MemDisk::new(alloc, 8, 0)?;
+    disk.arm(&[Failing { kind, number }], 16)?;
+    let noted = Noted::new(alloc, disk, 16)?;
+    match Stable::format(alloc, noted, 1024, 3) {
+        Ok(stable) => Ok(stable.into_disk()),
+        Err((disk, _)) => Ok(disk),
     }
 }
 
-/// The disk made as many of these calls, and no other.
-fn expect_calls(rt: &impl Abort, disk: &Noted, made: usize, table: &[Call; 6]) {
-    assert_eq!(rt; disk.count, made);
-    assert!(rt; disk.count <= 6);
-    assert_eq!(rt; &disk.calls[..disk.count], &table[..disk.count]);
+/// There are as many calls, and they are the first ones of these.
+fn expect_calls(rt: &impl Abort, calls: &[Call], made: usize, table: &[Call]) {
+    assert_eq!(rt; (calls.len(), table.starts_with(calls)), (made, true));
 }
 
-/// After a failed call no later one is made.
+/// After a failed call no later one is made. No fifth write is there to fail.
 #[test]
 fn formats_by_the_calls_of_the_table(rt: HostRuntime) -> Result<(), Fail> {
     let table = [
@@ -222,10 +223,69 @@ fn formats_by_the_calls_of_the_table(rt: HostRuntime) -> Result<(), Fail> {
         Call::Write(2),
         Call::Sync,
     ];
-    for failing in 0..7 {
-        let disk = format_noted(rt.alloc(), failing);
-        let made = if failing == 0 { 6 } else { failing };
-        expect_calls(&rt, &disk, made, &table);
+    let fails = [
+        (Kind::Write, 1, 1),
+        (Kind::Write, 3, 3),
+        (Kind::Sync, 1, 4),
+        (Kind::Write, 4, 5),
+        (Kind::Sync, 2, 6),
+        (Kind::Write, 5, 6),
+    ];
+    for (kind, number, made) in fails {
+        let disk = format_noted(rt.alloc(), kind, number)?;
+        expect_calls(&rt, disk.calls(), made, &table);
     }
+    Ok(())
+}
+
+/// The disk of a store of 2,048 pages whose two map blocks have frames 2 and 3.
+fn mapped_twice(rt: &impl Abort, alloc: Global) -> Result<MemDisk, Fail> {
+    let mut stable = formatted(alloc, MemDisk::new(alloc, 13, 32)?, 2048, 8)?;
+    let answer = commit_two(rt, alloc, &mut stable)?;
+    assert_eq!(rt; answer, Ok(2));
+    Ok(stable.into_disk())
+}
+
+/// Each block is read once: the header, the gates, the bodies, and the map blocks in their order. Then there is one sync.
+#[test]
+fn opens_by_the_calls_of_the_table(rt: HostRuntime) -> Result<(), Fail> {
+    let table = [
+        Call::Read(0),
+        Call::Read(2),
+        Call::Read(4),
+        Call::Read(1),
+        Call::Read(3),
+        Call::Read(7),
+        Call::Read(8),
+        Call::Sync,
+    ];
+    let noted = Noted::new(rt.alloc(), mapped_twice(&rt, rt.alloc())?, 16)?;
+    let disk = opened(rt.alloc(), noted)?.into_disk();
+    assert_eq!(rt; disk.calls(), table.as_slice());
+    Ok(())
+}
+
+/// Reads this page.
+fn read<D: Disk>(
+    rt: &impl Abort,
+    alloc: Global,
+    stable: &mut Stable<D>,
+    page: u32,
+) -> Result<(), Memory> {
+    let mut into = Frame::zero(alloc)?;
+    assert!(rt; page < stable.pages());
+    assert_eq!(rt; stable.read_page(Page(page), &mut into), Ok(()));
+    Ok(())
+}
+
+/// A page without a frame is read by no call, and page 0, which is in frame 0, by one.
+#[test]
+fn reads_a_page_by_one_call(rt: HostRuntime) -> Result<(), Fail> {
+    let noted = Noted::new(rt.alloc(), mapped_twice(&rt, rt.alloc())?, 16)?;
+    let mut stable = opened(rt.alloc(), noted)?;
+    read(&rt, rt.alloc(), &mut stable, 1)?;
+    read(&rt, rt.alloc(), &mut stable, 0)?;
+    let disk = stable.into_disk();
+    assert!(rt; disk.calls().ends_with(&[Call::Sync, Call::Read(5)]));
     Ok(())
 }

@@ -1,4 +1,3 @@
-use Rattle.std.proofs.Common.{◌∙◌, ap}
 use Rattle.casper_disk.specs.Disk.{with_loose}
 use Rattle.casper_commit.specs.States.{OpensTo}
 use Rattle.casper_commit.proofs.StateLemmas.{loose_place, free_loose, stands_wrote, stands_meanwhile}
@@ -11,7 +10,7 @@ returns-clause-stands g c told closed root free base is_free stands =
     let after = c.write.new.self in
     stands_wrote closed root free base (g.D.Disk.content disk) (g.D.Disk.content after) (g.D.Disk.loose disk) (g.D.Disk.loose after) c.args.at stands
     (free_loose (loose_place closed root.slot) c.args.at free is_free) (c.write.ensures.others told)
-    (λ other out. ap (λ loose. loose other) (c.write.ensures.loose told) ∙ out)
+    (c.write.ensures.loose told)
 
 pub returns-clause-images : goal.returns-clause-images
 returns-clause-images g c told closed root free base is_free stands =

@@ -11,12 +11,14 @@ use Rattle.casper_commit.specs.declared.standing.Standing.{Standing}
 use Rattle.casper_commit.proofs.ResultLemmas.{on_err}
 use Rattle.casper_map.specs.Mapped.{page_count}
 use Rattle.casper_map.specs.Room.{room_of}
+use Rattle.casper_map.proofs.PagesLemmas.{others_stay}
 use Rattle.casper_map.proofs.RoomLemmas.{rooms_follow_plans}
 use Rattle.casper_map.specs.Planned.{Planned, moved}
 use Rattle.casper_stable.specs.SoundLemmas.{plan_long}
 use Rattle.casper_stable.specs.Opens.{pages_in}
 use Rattle.casper_stable.specs.Kept.{Kept, changes_written, image_of, next_body, roots_of}
 use Rattle.casper_stable.specs.Leaves.{Leaves}
+use Rattle.casper_stable.specs.Others.{OthersKeepFrames, frame_of_page}
 use Rattle.casper_stable.specs.Sound.{IsOnDisk, free_blocks, root_of}
 use Rattle.casper_stable.specs.LeavesLemmas.{took_saved}
 use Rattle.casper_stable.proofs.CommitLemmas.{fit_next, fit_still, disk_next, disk_doubt, some_is}
@@ -280,3 +282,15 @@ returns-clause-room g c given hyp =
     ap room_of c.apply.ensures ∙ rooms_follow_plans own.map plan whole.blocks planned
     ∙ ap (λ (kept : Kept g.row.D.Denot). room_after (moved plan.pages) (room_of kept.held)) c.self.view_is
     ∙ ap (λ (one : Planned). room_after (moved one.pages) (room_of c.args.self.now.held)) same_plan
+
+pub returns-clause-frames : goal.returns-clause-frames
+returns-clause-frames g c given hyp =
+    let own = c.self.inside in
+    let plan = c.in-Some.plan in
+    let some : own.doubt ≡ Some plan = c.in-Some.is in
+    let whole = c.self.invariant.0.whole in
+    let planned = c.self.invariant.0.planned plan some in
+    let same_plan : plan ≡ given = some_is plan given (sym some ∙ ap (λ (kept : Kept g.row.D.Denot). kept.doubt) c.self.view_is ∙ hyp) in
+    subst (λ (one : Planned). OthersKeepFrames (moved one.pages) c.args.self.now.held c.apply.new.self) same_plan
+    (subst (λ (kept : Kept g.row.D.Denot). OthersKeepFrames (moved plan.pages) kept.held c.apply.new.self) c.self.view_is
+    (λ page others. ap (λ held. frame_of_page held page) c.apply.ensures ∙ others_stay own.map plan page whole.blocks planned others))

@@ -1,4 +1,4 @@
-use Rattle.std.proofs.Common.{◌∙◌, sym, ap, subst}
+use Rattle.std.proofs.Common.{◌∙◌, refl, sym, ap, subst}
 use Rattle.std.specs.Prelude.{Option, Some, option_map}
 use Rattle.casper_disk.specs.Disk.{Took}
 use Rattle.casper_disk.specs.Vault.{IsOldOrNewImage, changes_in, room_settled, version_settled}
@@ -7,6 +7,7 @@ use Rattle.casper_map.specs.Planned.{Planned}
 use Rattle.casper_map.specs.Room.{room_of}
 use Rattle.casper_stable.specs.Kept.{changes_written, doubt_of, image_of, store_room}
 use Rattle.casper_stable.specs.Leaves.{Leaves}
+use Rattle.casper_stable.specs.Others.{OthersKeepFrames, pages_in_doubt}
 use Rattle.casper_stable.specs.OpensLemmas.{changes_pages}
 use Rattle.casper_stable.proofs.VaultLemmas.{some_of, none_of, took_sure}
 use Rattle.casper_stable.proofs.vault.StableVault.settle.Goals as goal
@@ -64,3 +65,13 @@ returns-clause-images g c told =
     (IsOldOrNewImage (image_of g.D.Disk.content kept) kept.body.seq (changes_in (option_map (changes_written (g.D.Disk.content kept.disk)) doubt))
     (version_settled (option_map (changes_written (g.D.Disk.content kept.disk)) doubt) kept.body.seq))) (sym found.1)
     (c.end_doubt.ensures.images told found.0 found.1)
+
+pub returns-then-not-in_doubt-clause-frames : goal.returns-then-not-in_doubt-clause-frames
+returns-then-not-in_doubt-clause-frames g c page others = refl
+
+pub returns-clause-frames : goal.returns-clause-frames
+returns-clause-frames g c =
+    let kept = c.args.self.now.store in
+    let found = some_of kept.doubt (sym c.in_doubt.ensures ∙ c.if-not-in_doubt.false) in
+    subst (λ (doubt : Option Planned). OthersKeepFrames (pages_in_doubt doubt) kept.held c.end_doubt.new.self.held) (sym found.1)
+    (c.in_ok-end_doubt.ensures.frames found.0 found.1)
