@@ -1,4 +1,4 @@
-ghost use Rattle.std.specs.Prelude.{◌≡◌, ◌⊎◌, ◌+◌, ◌<◌, ◌≤◌, [], length, Err, MatchResult, MatchBool};
+ghost use Rattle.std.specs.Prelude.{◌≡◌, ◌⊎◌, ◌+◌, ◌<◌, ◌≤◌, false, [], length, Err, MatchResult, MatchBool};
 ghost use Rattle.casper_words.specs.Count.{FaultCountRose};
 ghost use Rattle.casper_io.specs.Lines.{TakesLine, TakesEnd};
 ghost use Rattle.casper_io.specs.Told.{WhereTold};
@@ -20,6 +20,7 @@ use std::alloc::Global;
 /// the source failed. After `FirstBad` and `BadLine` nothing after that line was taken; after `BadLine` for too long a line, what
 /// `next_line` takes of one.
 pub fn audit<S: Source>(alloc: Global, source: &mut S) -> Result<Verdict, AuditFault>
+    requires { S.is_broken source.old ≡ false }
     ensures audit { IsAudit (S.left source.old) (S.left source.new) result }
     ensures fault { result ≡ Err AuditFault.Read
         → FaultCountRose (S.faults source.old) (S.faults source.new) }
@@ -46,6 +47,7 @@ pub fn audit<S: Source>(alloc: Global, source: &mut S) -> Result<Verdict, AuditF
 
 /// Reads the next line into `line`, and tells whether there is one. The line would be of this number.
 fn read_line<S: Source>(source: &mut S, line: &mut Line, number: u32) -> Result<bool, AuditFault>
+    requires { S.is_broken source.old ≡ false }
     ensures next { MatchResult result
         (λ found. MatchBool found
         (WhereTold (S.left source.old) (S.left source.new) (TakesLine line.new))
@@ -56,6 +58,7 @@ fn read_line<S: Source>(source: &mut S, line: &mut Line, number: u32) -> Result<
     ensures source_stands { (result ≡ Err AuditFault.Read)
         ⊎ (S.faults source.new ≡ S.faults source.old) }
     ensures never_falls { S.faults source.old ≤ S.faults source.new }
+    ensures source_whole { (result ≡ Err AuditFault.Read) ⊎ (S.is_broken source.new ≡ false) }
     ensures short { length line.new ≤ 1024 }
 {
     match next_line(source, line) {

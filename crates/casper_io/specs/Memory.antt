@@ -1,4 +1,4 @@
-use Rattle.std.specs.Prelude.{◌==◌, ℕ, ◌+◌, ◌-◌, ◌^◌, List, Bool, min}
+use Rattle.std.specs.Prelude.{◌==◌, ℕ, ◌+◌, ◌-◌, ◌^◌, List, Bool, min, nat_lt}
 use Rattle.std.specs.List.{list_any}
 
 -- the count that follows, which stands still at the end of its type
@@ -14,6 +14,10 @@ pub record Failing : Type 0 where
 -- whether the next call is to fail
 abbrev pub fails_next : Failing → Bool
 fails_next state = list_any (λ call. call == next_count state.calls) state.fails
+
+-- whether a call failed
+abbrev pub has_failed : Failing → Bool
+has_failed state = nat_lt 0 state.faults
 
 -- after a call that did not fail
 abbrev pub after_call : Failing → Failing

@@ -1,4 +1,4 @@
-ghost use Rattle.std.specs.Prelude.{◌≡◌, ◌≤◌, OnOk, OnErr};
+ghost use Rattle.std.specs.Prelude.{◌≡◌, ◌≤◌, false, is_err, OnOk, OnErr};
 ghost use Rattle.casper_words.specs.Count.{FaultCountRose};
 ghost use Rattle.casper_io.specs.Lines.{IsShortLine, Takes};
 ghost use Rattle.casper_io.specs.Told.{WhereTold};
@@ -25,6 +25,8 @@ pub enum Next {
 /// After `End` the line is empty, after `TooLong` it has the first 1,024 of the 1,025 bytes taken, and after a fault it has
 /// the bytes that were taken.
 pub fn next_line<S: Source>(source: &mut S, line: &mut Line) -> Result<Next, IoFault>
+    requires { S.is_broken source.old ≡ false }
+    ensures broken { S.is_broken source.new ≡ is_err result }
     ensures takes { WhereTold (S.left source.old) (S.left source.new) (Takes result line.new) }
     ensures short { IsShortLine line.new }
     ensures counted { OnErr result (FaultCountRose (S.faults source.old) (S.faults source.new)) }
@@ -78,9 +80,6 @@ mod tests {
         let mut line = Line::new(rt.alloc())?;
         assert_eq!(rt; next_line(&mut source, &mut line), Ok(Next::Line));
         assert_eq!(rt; next_line(&mut source, &mut line), Err(IoFault::Failed));
-        assert_eq!(rt; next_line(&mut source, &mut line), Ok(Next::Line));
-        assert_eq!(rt; line.bytes(), b"serve 1".as_slice());
-        assert_eq!(rt; next_line(&mut source, &mut line), Ok(Next::End));
         Ok(())
     }
 }

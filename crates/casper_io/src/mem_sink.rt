@@ -1,7 +1,7 @@
-ghost use Rattle.std.specs.Prelude.{◌≡◌, ◌||◌, ℕ, ◌+◌, ◌<◌, ◌≤◌, List, [], ◌++◌, Option, Some, Bool, nat_lt, length, take, is_err, IfOk, OnOk, OnErr};
+ghost use Rattle.std.specs.Prelude.{◌≡◌, ◌||◌, ℕ, ◌+◌, ◌<◌, ◌≤◌, List, [], ◌++◌, Option, Some, Bool, false, nat_lt, length, take, is_err, IfOk, OnOk, OnErr};
 ghost use Rattle.std.specs.Io.KnownBytes.{append_known};
 ghost use Rattle.casper_words.specs.Count.{FaultCountRose};
-ghost use Rattle.casper_io.specs.Memory.{fails_next, after_call, after_fault};
+ghost use Rattle.casper_io.specs.Memory.{fails_next, has_failed, after_call, after_fault};
 
 use crate::failing::FailingCalls;
 use crate::spare::push_all;
@@ -61,9 +61,13 @@ impl Sink for MemSink {
 
     ghost faults = { λ sink. sink.failing.faults };
 
+    ghost is_broken = { λ sink. has_failed sink.failing };
+
     /// Fails exactly where this call is one of those that are to fail or the piece is longer than the room that is left, and
     /// else takes the whole piece.
     fn write(&mut self, from: &[u8]) -> Result<usize, IoFault>
+        requires whole { has_failed self.old.failing ≡ false }
+        ensures broken { has_failed self.new.failing ≡ is_err result }
         ensures fails { is_err result ≡ (fails_next self.old.failing
             || nat_lt self.old.room (length self.old.taken + length from.now)) }
         ensures whole { IfOk result (λ count. count ≡ length from.now) }
@@ -100,9 +104,16 @@ mod tests {
         let mut sink = MemSink::new(rt.alloc(), 4, &[2])?;
         assert_eq!(rt; put_all(&mut sink, b"ab"), Ok(()));
         assert_eq!(rt; put_all(&mut sink, b"c"), Err(IoFault::Failed));
-        assert_eq!(rt; put_all(&mut sink, b"de"), Ok(()));
-        assert_eq!(rt; put_all(&mut sink, b"f"), Err(IoFault::Failed));
-        assert_eq!(rt; sink.bytes(), b"abde".as_slice());
+        assert_eq!(rt; sink.bytes(), b"ab".as_slice());
+        Ok(())
+    }
+
+    #[test]
+    fn a_full_sink_fails(rt: HostRuntime) -> Result<(), Fail> {
+        let mut sink = MemSink::new(rt.alloc(), 4, &[])?;
+        assert_eq!(rt; put_all(&mut sink, b"abcd"), Ok(()));
+        assert_eq!(rt; put_all(&mut sink, b"e"), Err(IoFault::Failed));
+        assert_eq!(rt; sink.bytes(), b"abcd".as_slice());
         Ok(())
     }
 }

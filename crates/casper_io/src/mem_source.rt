@@ -1,6 +1,6 @@
-ghost use Rattle.std.specs.Prelude.{◌≡◌, ◌≤◌, [], Some, is_err, IfOk, OnOk, OnErr};
+ghost use Rattle.std.specs.Prelude.{◌≡◌, ◌≤◌, [], Some, false, is_err, IfOk, OnOk, OnErr};
 ghost use Rattle.casper_words.specs.Count.{FaultCountRose};
-ghost use Rattle.casper_io.specs.Memory.{fails_next, after_call, after_fault};
+ghost use Rattle.casper_io.specs.Memory.{fails_next, has_failed, after_call, after_fault};
 ghost use Rattle.casper_io.specs.Piece.{GivesPiece};
 
 use crate::failing::FailingCalls;
@@ -44,6 +44,13 @@ impl MemSource {
             failing,
         })
     }
+
+    /// The bytes left.
+    pub fn left(&self) -> &[u8]
+        ensures { result.now ≡ self.now.left }
+    {
+        &self.bytes[self.at..]
+    }
 }
 
 impl Source for MemSource {
@@ -51,8 +58,12 @@ impl Source for MemSource {
 
     ghost faults = { λ source. source.failing.faults };
 
+    ghost is_broken = { λ source. has_failed source.failing };
+
     /// Fails exactly where this call is one of those that are to fail. A line goes on after it only where no byte is left.
     fn read_piece(&mut self, line: &mut Line) -> Result<Piece, IoFault>
+        requires whole { has_failed self.old.failing ≡ false }
+        ensures broken { has_failed self.new.failing ≡ is_err result }
         ensures fails { is_err result ≡ fails_next self.old.failing }
         ensures whole { IfOk result (λ piece. piece ≡ Piece.Part → self.new.left ≡ []) }
         ensures ok { OnOk result (self.new.failing ≡ after_call self.old.failing) }

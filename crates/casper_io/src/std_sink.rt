@@ -1,4 +1,4 @@
-ghost use Rattle.std.specs.Prelude.{◌≡◌, ◌≤◌, ℕ, List, Option, None, length, IfOk};
+ghost use Rattle.std.specs.Prelude.{◌≡◌, ◌≤◌, ℕ, List, Option, None, Bool, nat_lt, length, IfOk};
 
 use crate::again::{flush_again, write_again};
 use crate::{IoFault, Sink};
@@ -48,6 +48,8 @@ impl<W: Write> Sink for StdSink<W> {
     ghost taken = { λ _. None };
 
     ghost faults = { λ faults. faults };
+
+    ghost is_broken = { λ faults. nat_lt 0 faults };
 
     fn write(&mut self, from: &[u8]) -> Result<usize, IoFault> {
         match self.hand_on(from) {

@@ -1,4 +1,4 @@
-ghost use Rattle.std.specs.Prelude.{◌≡◌, ℕ, List, Option, None, IfOk};
+ghost use Rattle.std.specs.Prelude.{◌≡◌, ℕ, List, Option, None, Bool, nat_lt, IfOk};
 
 use crate::again::fill_again;
 use crate::{IoFault, Line, Piece, Source};
@@ -39,6 +39,8 @@ impl<R: Read> Source for StdSource<R> {
     ghost left = { λ _. None };
 
     ghost faults = { λ faults. faults };
+
+    ghost is_broken = { λ faults. nat_lt 0 faults };
 
     fn read_piece(&mut self, line: &mut Line) -> Result<Piece, IoFault> {
         match fill_again(&mut self.reader) {

@@ -1,4 +1,4 @@
-use Rattle.std.specs.Prelude.{ℕ, List, [], ◌∷◌, ◌++◌, if◌then◌else◌, codes}
+use Rattle.std.specs.Prelude.{ℕ, Bool, true, false, List, [], ◌∷◌, ◌++◌, if◌then◌else◌, codes}
 use Rattle.std.specs.List.{flat_map}
 use Rattle.std.specs.Fmt.{decimal}
 use Rattle.casper_space.specs.declared.answer.Answer.{Answer}
@@ -72,6 +72,45 @@ answer_line (answer.LoseLost mark) = word_line (codes "lost") mark
 answer_line (answer.LoseNoted lead) = word_line (codes "noted") lead
 answer_line (answer.Already mark) = word_line (codes "already") mark
 answer_line (answer.Reopened version) = word_line (codes "reopened") version
+
+-- whether the line that answers an event is the same whatever the answer tells: it tells no number and no client
+abbrev pub is_constant : Answer → Bool
+is_constant (answer.Value n) = false
+is_constant (answer.Pending blockers) = false
+is_constant (answer.Frozen lead) = false
+is_constant (answer.RolledBack mark recorded unrecorded) = false
+is_constant (answer.TrailFull entries) = false
+is_constant (answer.Gathering awaited) = false
+is_constant (answer.Sealed pages) = false
+is_constant (answer.Doing lead) = false
+is_constant (answer.Doubtful lead) = false
+is_constant (answer.Commit mark) = false
+is_constant (answer.FailedFull need free) = false
+is_constant (answer.Written version) = false
+is_constant (answer.Full need free) = false
+is_constant (answer.Vault lead) = false
+is_constant (answer.Undone mark) = false
+is_constant (answer.VanishLost mark unrecorded) = false
+is_constant (answer.VanishNoted lead unrecorded) = false
+is_constant (answer.LoseLost mark) = false
+is_constant (answer.LoseNoted lead) = false
+is_constant (answer.Already mark) = false
+is_constant (answer.Reopened version) = false
+is_constant answer.Joined = true
+is_constant answer.Busy = true
+is_constant answer.Absent = true
+is_constant answer.Range = true
+is_constant answer.Ok = true
+is_constant answer.Granted = true
+is_constant answer.InDoubt = true
+is_constant answer.Disk = true
+is_constant answer.FailedWorn = true
+is_constant (answer.FailedDisk doubt) = true
+is_constant answer.Worn = true
+is_constant answer.Doubt = true
+is_constant answer.NoJob = true
+is_constant answer.Nothing = true
+is_constant answer.Left = true
 
 -- the lines of answers, in order
 abbrev pub answer_lines : List Answer → List ℕ

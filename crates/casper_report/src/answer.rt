@@ -1,53 +1,78 @@
-ghost use Rattle.std.specs.Prelude.{◌≡◌, ◌≤◌, [], ◌∷◌, ◌++◌, if◌then◌else◌, OnOk};
+ghost use Rattle.std.specs.Prelude.{◌≡◌, ◌≤◌, [], ◌∷◌, ◌++◌, if◌then◌else◌, true, false, OnOk, IsOk, IfOk, IfSome, is_some};
 ghost use Rattle.std.specs.Fmt.{decimal};
 ghost use Rattle.casper_words.specs.Crew.{has_member, IsCrew};
-ghost use Rattle.casper_report.specs.Texts.{answer_line, as_line, word_line, pair_line, rolled_back_line, frames_line, crew_line};
+ghost use Rattle.casper_report.specs.Texts.{answer_line, is_constant, as_line, word_line, pair_line, rolled_back_line, frames_line, crew_line};
 
 use casper_space::Answer;
 use casper_words::{Crew, Memory, Who};
 use itoa::Buffer;
 
-/// Puts the line that answers an event, with its newline, into the place of what the text had. Memory is asked for only
-/// where the text has no room for the line. Where it is short, the text is of no use.
-pub fn set_answer_text(text: &mut Vec<u8>, answer: &Answer) -> Result<(), Memory>
+/// The line that answers an event, with its newline. Where its text is constant, nothing is copied and no memory is asked for.
+/// Else it stands in the room, in the place of what that had, and memory is asked for only where the room is too small for it.
+pub fn answer_text<'a>(answer: &Answer, room: &'a mut Vec<u8>) -> Result<&'a [u8], Memory>
+    ensures text { IfOk result (λ text. text.now ≡ answer_line answer.now) }
+    ensures constant { is_constant answer.now ≡ true → IsOk result }
+{
+    if let Some(text) = constant_text(answer) {
+        return Ok(text);
+    }
+    set_answer_text(room, answer)?;
+    Ok(room.as_slice())
+}
+
+/// The line that answers an event, where it is the same whatever the answer tells.
+fn constant_text(answer: &Answer) -> Option<&'static [u8]>
+    ensures text { IfSome result (λ text. text.now ≡ answer_line answer.now) }
+    ensures constant { is_some result ≡ is_constant answer.now }
+{
+    let text: &[u8] = match answer {
+        Answer::Joined => b"joined\n",
+        Answer::Busy => b"busy\n",
+        Answer::Absent => b"absent\n",
+        Answer::Range => b"range\n",
+        Answer::Ok => b"ok\n",
+        Answer::Granted => b"granted\n",
+        Answer::InDoubt => b"indoubt\n",
+        Answer::Disk => b"disk\n",
+        Answer::FailedWorn => b"failed worn\n",
+        Answer::FailedDisk { doubt: true } => b"failed disk in doubt\n",
+        Answer::FailedDisk { doubt: false } => b"failed disk\n",
+        Answer::Worn => b"worn\n",
+        Answer::Doubt => b"doubt\n",
+        Answer::NoJob => b"nojob\n",
+        Answer::Nothing => b"nothing\n",
+        Answer::Left => b"left\n",
+        _ => return None,
+    };
+    Some(text)
+}
+
+/// Puts the line that answers an event into the place of what the text had, where it tells a number or clients. Where memory is
+/// short, the text is of no use.
+fn set_answer_text(text: &mut Vec<u8>, answer: &Answer) -> Result<(), Memory>
+    requires { is_constant answer.now ≡ false }
     ensures { OnOk result (text.new.items ≡ answer_line answer.now) }
 {
     match answer {
-        Answer::Joined => set_text(text, b"joined\n"),
-        Answer::Busy => set_text(text, b"busy\n"),
-        Answer::Absent => set_text(text, b"absent\n"),
-        Answer::Range => set_text(text, b"range\n"),
         Answer::Value(value) => set_number(text, *value),
-        Answer::Ok => set_text(text, b"ok\n"),
-        Answer::Granted => set_text(text, b"granted\n"),
         Answer::Pending(blockers) => set_crew(text, b"pending", *blockers),
         Answer::Frozen(lead) => set_word(text, b"frozen", u64::from(lead.number())),
-        Answer::InDoubt => set_text(text, b"indoubt\n"),
         Answer::RolledBack {
             mark,
             recorded,
             unrecorded,
         } => set_rolled_back(text, *mark, *recorded, *unrecorded),
         Answer::TrailFull(entries) => set_word(text, b"trailfull", u64::from(*entries)),
-        Answer::Disk => set_text(text, b"disk\n"),
         Answer::Gathering(awaited) => set_crew(text, b"gathering", *awaited),
         Answer::Sealed(pages) => set_word(text, b"sealed", u64::from(*pages)),
         Answer::Doing(lead) => set_word(text, b"doing", u64::from(lead.number())),
         Answer::Doubtful(lead) => set_word(text, b"doubt", u64::from(lead.number())),
         Answer::Commit(mark) => set_word(text, b"commit", *mark),
         Answer::FailedFull { need, free } => set_frames(text, b"failed full", *need, *free),
-        Answer::FailedWorn => set_text(text, b"failed worn\n"),
-        Answer::FailedDisk { doubt: true } => set_text(text, b"failed disk in doubt\n"),
-        Answer::FailedDisk { doubt: false } => set_text(text, b"failed disk\n"),
         Answer::Written(version) => set_word(text, b"written", *version),
         Answer::Full { need, free } => set_frames(text, b"full", *need, *free),
-        Answer::Worn => set_text(text, b"worn\n"),
-        Answer::Doubt => set_text(text, b"doubt\n"),
-        Answer::NoJob => set_text(text, b"nojob\n"),
         Answer::Vault(lead) => set_word(text, b"vault", u64::from(lead.number())),
         Answer::Undone(mark) => set_word(text, b"undone", *mark),
-        Answer::Nothing => set_text(text, b"nothing\n"),
-        Answer::Left => set_text(text, b"left\n"),
         Answer::VanishLost { mark, unrecorded } => set_pair(text, b"lost", *mark, *unrecorded),
         Answer::VanishNoted { lead, unrecorded } => {
             set_pair(text, b"noted", u64::from(lead.number()), *unrecorded)
@@ -56,6 +81,7 @@ pub fn set_answer_text(text: &mut Vec<u8>, answer: &Answer) -> Result<(), Memory
         Answer::LoseNoted(lead) => set_word(text, b"noted", u64::from(lead.number())),
         Answer::Already(mark) => set_word(text, b"already", *mark),
         Answer::Reopened(version) => set_word(text, b"reopened", *version),
+        _ => unreachable!(),
     }
 }
 
@@ -249,10 +275,9 @@ mod tests {
             (Answer::Reopened(2), b"reopened 2\n"),
             (Answer::Pending(Crew::none()), b"pending\n"),
         ];
-        let mut text = Vec::new(rt.alloc());
+        let mut room = Vec::new(rt.alloc());
         for (answer, want) in table {
-            set_answer_text(&mut text, &answer)?;
-            assert_eq!(rt; text.as_slice(), want);
+            assert_eq!(rt; answer_text(&answer, &mut room)?, want);
         }
         Ok(())
     }

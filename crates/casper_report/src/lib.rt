@@ -4,5 +4,5 @@
 mod answer;
 mod summary;
 
-pub use answer::set_answer_text;
+pub use answer::answer_text;
 pub use summary::{Summary, summary_text};

@@ -5,14 +5,16 @@ mod laws;
 mod lines;
 mod names;
 mod numbers;
+mod places;
 mod references;
 mod span;
 mod word;
 
 pub use laws::{line_laws, name_laws, number_laws, reference_laws};
-pub use lines::{words_into, words_of};
+pub use lines::words_of;
 pub use names::name;
 pub use numbers::{number, small_number};
+pub use places::Places;
 pub use references::reference;
 pub use span::Span;
 pub use word::Word;

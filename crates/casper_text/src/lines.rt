@@ -1,4 +1,4 @@
-ghost use Rattle.std.specs.Prelude.{◌≡◌, ◌++◌, ◌↔◌, map, All, Any, IfOk, OnErr, OnOk, IsSome, IsNone, IfSome, IsTrue, IsFalse, is_some};
+ghost use Rattle.std.specs.Prelude.{◌≡◌, ◌+◌, ◌-◌, ◌*◌, ◌<◌, ◌≤◌, ◌++◌, ◌↔◌, length, vec_capacity, map, All, Any, IfOk, OnErr, IsSome, IsNone, IfSome, IsTrue, IsFalse, is_some};
 ghost use Rattle.casper_text.specs.Line.{IsPrintable, all_printable, words};
 ghost use Rattle.casper_text.specs.Span.{IsWithin, word_at, spans_between};
 
@@ -8,28 +8,25 @@ use std::alloc::Global;
 
 /// Puts the places of the words of a line into a list, in order, in the place of what it had, and tells whether each byte of
 /// the line is from 0x20 to 0x7E. Words are parted by one or more spaces, and spaces at either end are allowed. Where a byte
-/// is outside that range no memory is asked for and the list is of no use. Memory is asked for only where the list has no
-/// room for the places.
-pub fn words_into(line: &[u8], spans: &mut Vec<Span>) -> Result<bool, Memory>
-    ensures exactly { IfOk result (λ found. IsTrue found ↔ All IsPrintable line.now) }
-    ensures refused { IfOk result
-        (λ found. IsFalse found ↔ Any (λ byte. ¬ (IsPrintable byte)) line.now) }
-    ensures printable { IfOk result (λ found. found ≡ all_printable line.now) }
-    ensures words { IfOk result
-        (λ found. IsTrue found → map (word_at line.now) spans.new.items ≡ words line.now) }
-    ensures within { IfOk result
-        (λ found. IsTrue found → All (IsWithin line.now) spans.new.items) }
-    ensures memory { OnErr result (All IsPrintable line.now) }
+/// is outside that range the list is of no use. The list has room for a word at every other byte, so no memory is asked for.
+pub(crate) fn words_into(line: &[u8], spans: &mut Vec<Span>) -> bool
+    requires { length line.now < 2 * vec_capacity spans.old }
+    ensures exactly { IsTrue result ↔ All IsPrintable line.now }
+    ensures refused { IsFalse result ↔ Any (λ byte. ¬ (IsPrintable byte)) line.now }
+    ensures printable { result ≡ all_printable line.now }
+    ensures words { IsTrue result → map (word_at line.now) spans.new.items ≡ words line.now }
+    ensures within { IsTrue result → All (IsWithin line.now) spans.new.items }
+    ensures room { vec_capacity spans.old ≤ vec_capacity spans.new }
 {
     if !is_printable(line) {
-        return Ok(false);
+        return false;
     }
-    place_words(line, spans)?;
-    Ok(true)
+    place_words(line, spans);
+    true
 }
 
-/// The places of the words of a line, in order, as `words_into` puts them into a list. None where a byte is outside 0x20 to
-/// 0x7E.
+/// The places of the words of a line, in order, as `Places` has them. None where a byte is outside 0x20 to 0x7E, and then no
+/// memory is asked for.
 pub fn words_of(alloc: Global, line: &[u8]) -> Result<Option<Vec<Span>>, Memory>
     ensures exactly { IfOk result (λ found. IsSome found ↔ All IsPrintable line.now) }
     ensures refused { IfOk result
@@ -41,12 +38,12 @@ pub fn words_of(alloc: Global, line: &[u8]) -> Result<Option<Vec<Span>>, Memory>
         (λ found. IfSome found (λ spans. All (IsWithin line.now) spans.items)) }
     ensures memory { OnErr result (All IsPrintable line.now) }
 {
-    let mut spans = Vec::new(alloc);
-    if words_into(line, &mut spans)? {
-        Ok(Some(spans))
-    } else {
-        Ok(None)
+    if !is_printable(line) {
+        return Ok(None);
     }
+    let mut spans = Vec::with_capacity(alloc, line.len() / 2 + 1)?;
+    place_words(line, &mut spans);
+    Ok(Some(spans))
 }
 
 /// Tells whether each byte is from 0x20 to 0x7E.
@@ -57,30 +54,33 @@ fn is_printable(line: &[u8]) -> bool
 }
 
 /// Puts the places of the words of a line into a list, whatever its bytes.
-fn place_words(line: &[u8], spans: &mut Vec<Span>) -> Result<(), Memory>
-    ensures words { OnOk result (map (word_at line.now) spans.new.items ≡ words line.now) }
-    ensures within { OnOk result (All (IsWithin line.now) spans.new.items) }
+fn place_words(line: &[u8], spans: &mut Vec<Span>)
+    requires { length line.now < 2 * vec_capacity spans.old }
+    ensures words { map (word_at line.now) spans.new.items ≡ words line.now }
+    ensures within { All (IsWithin line.now) spans.new.items }
+    ensures room { vec_capacity spans.old ≤ vec_capacity spans.new }
 {
     spans.clear();
     let mut from = 0;
     for (at, byte) in line.iter().enumerate() {
         if *byte == b' ' {
-            push_between(spans, from, at)?;
+            push_between(spans, from, at);
             from = at + 1;
         }
     }
-    push_between(spans, from, line.len())?;
-    Ok(())
+    push_between(spans, from, line.len());
 }
 
-/// Adds the place from one byte up to another, if it holds a byte.
-fn push_between(spans: &mut Vec<Span>, from: usize, to: usize) -> Result<(), Memory>
-    ensures { OnOk result (spans.new.items ≡ spans.old.items ++ spans_between from to) }
+/// Adds the place from one byte up to another, if it holds a byte. There is room for it.
+fn push_between(spans: &mut Vec<Span>, from: usize, to: usize)
+    requires { from < to → length spans.old.items < vec_capacity spans.old }
+    ensures items { spans.new.items ≡ spans.old.items ++ spans_between from to }
+    ensures count { 2 * length spans.new.items ≤ 2 * length spans.old.items + (to + 1 - from) }
+    ensures room { vec_capacity spans.old ≤ vec_capacity spans.new }
 {
-    if from < to {
-        spans.push(Span { from, to })?;
+    if from < to && spans.push(Span { from, to }).is_err() {
+        unreachable!()
     }
-    Ok(())
 }
 
 #[cfg(test)]

@@ -31,6 +31,7 @@ loop-lines-init g c = (
   omega (arith, c.in_ok-auditor.ensures.items),
   omega (arith, c.in_ok-auditor.ensures.entries),
   refl,
+  c.requires,
 )
 
 pub loop-lines-preserved : goal.loop-lines-preserved
@@ -41,4 +42,5 @@ loop-lines-preserved g c = (
   omega (arith, c.take_line.ensures.items, c.loop-lines.invariant.1),
   omega (arith, c.take_line.ensures.entries, c.loop-lines.invariant.2),
   (elim c.in_ok-read_line.ensures.source_stands [ inl failed ↦ (let none = failed in cc) | inr same ↦ same ]) ∙ c.loop-lines.invariant.3,
+  elim c.in_ok-read_line.ensures.source_whole [ inl failed ↦ (let none = failed in cc) | inr whole ↦ whole ],
 )

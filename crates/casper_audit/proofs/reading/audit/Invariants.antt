@@ -1,4 +1,4 @@
-use Rattle.std.proofs.Common.{◌≡◌, ◌≤◌}
+use Rattle.std.proofs.Common.{◌≡◌, ◌≤◌, false}
 use Rattle.casper_audit.proofs.AuditLemmas.{Behind}
 use Rattle.casper_audit.proofs.reading.audit.Given as goal
 
@@ -8,3 +8,4 @@ invariant-loop-lines g l =
     × (l.auditor.items ≤ l.lines)
     × (l.auditor.entries ≤ l.lines)
     × (g.S.Source.faults l.source ≡ g.S.Source.faults l.fn.source)
+    × (g.S.Source.is_broken l.source ≡ false)

@@ -8,4 +8,5 @@ loop-done-preserved g c =
       within,
       append_known-more _ _ _ c.args.bytes.now c.loop-done.done c.in_ok-done.field-0 within c.loop-done.invariant.1 c.in_ok-done.ensures.moved,
       search rules,
+      search rules,
     )
