@@ -24,7 +24,7 @@ without_is members who crew =
     sym (filter_both (λ client. has_member client members) (λ client. not (nat_eq client who)) clients)
     ∙ ap (filter (λ client. not (nat_eq client who))) (sym crew.canonical)
 
-flip : (one other : ℕ) → nat_eq one other ≡ nat_eq other one
+pub flip : (one other : ℕ) → nat_eq one other ≡ nat_eq other one
 flip one other =
     ⊎_elim
     (λ (same : nat_eq one other ≡ true). same ∙ sym (eq-eqb other one (sym (eqb-true one other same))))

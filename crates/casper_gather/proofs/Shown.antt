@@ -1,13 +1,13 @@
-use Rattle.std.proofs.Common.{◌≡◌, zero, suc, ◌==◌, eqb-true, List, [], ◌∷◌, Bool, true, false, cond, not, Contains, refl, sym, ap, arith}
+use Rattle.std.proofs.Common.{◌≡◌, zero, suc, ◌==◌, ◌&&◌, eqb-true, List, [], ◌∷◌, Bool, true, false, cond, not, Contains, refl, sym, ap, arith}
 use Rattle.std.specs.Prelude.{Option, Some, map, filter, find, option_map}
 use Rattle.casper_words.specs.Crew.{has_member}
-use Rattle.casper_model.specs.Stabilisation.{Stabilisation, is_doubtful as machine_doubts}
+use Rattle.casper_model.specs.Stabilisation.{Stabilisation, is_sealed as machine_seals, is_doubtful as machine_doubts}
 use Rattle.casper_gather.specs.declared.stab.Phase.{Phase}
 use Rattle.casper_gather.specs.declared.stab.Phase.TheVariants as phase
 use Rattle.casper_gather.specs.declared.stab.Stab.{Stab}
 use Rattle.casper_gather.specs.Bookkeeping.{stabilisation_of, phase_of, without_asker}
-use Rattle.casper_gather.specs.Unended.{is_doubtful, led_by}
-use Rattle.casper_gather.specs.UnendedLaws.{FoundByLead, FoundByMembers, FoundInDoubt, ChangedAsInTheMachine, EndedAsInTheMachine, ForgottenAsInTheMachine, BegunAsInTheMachine}
+use Rattle.casper_gather.specs.Unended.{is_sealed, is_doubtful, led_by}
+use Rattle.casper_gather.specs.UnendedLaws.{FoundByLead, FoundByMembers, FoundSealed, FoundInDoubt, ChangedAsInTheMachine, EndedAsInTheMachine, ForgottenAsInTheMachine, BegunAsInTheMachine}
 use Rattle.std.proofs.lemmas.List.{map-append}
 
 found_step : {X Y : Type 0} (show : X → Y) (mine its : Bool) (x : X) (rest : Option X) (others : Option Y) → mine ≡ its → option_map show rest ≡ others
@@ -57,10 +57,19 @@ pub found_by_members : FoundByMembers
 found_by_members members each =
     find_shown stabilisation_of (λ one. has_member one.lead members) (λ one. has_member one.lead members) (λ one. refl) each
 
+seals_alike : (how : Phase) → is_sealed how ≡ machine_seals (phase_of how)
+seals_alike phase.Gathering = refl
+seals_alike phase.Sealed = refl
+seals_alike phase.Doubt = refl
+
+pub found_sealed : FoundSealed
+found_sealed lead each =
+    find_shown stabilisation_of (λ one. (one.lead == lead) && is_sealed one.phase) (λ one. (one.lead == lead) && machine_seals one.phase)
+    (λ one. ap (λ b. (one.lead == lead) && b) (seals_alike one.phase)) each
+
 doubts_alike : (how : Phase) → is_doubtful how ≡ machine_doubts (phase_of how)
 doubts_alike phase.Gathering = refl
 doubts_alike phase.Sealed = refl
-doubts_alike phase.Written = refl
 doubts_alike phase.Doubt = refl
 
 pub found_in_doubt : FoundInDoubt

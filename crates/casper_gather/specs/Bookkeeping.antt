@@ -9,11 +9,10 @@ use Rattle.casper_gather.specs.declared.stab.Stab.{Stab}
 use Rattle.casper_gather.specs.declared.resolved.Resolved.{Resolved}
 use Rattle.casper_gather.specs.declared.resolved.Resolved.TheVariants as resolved
 
--- a phase as the machine has it: one that was written out is sealed until it is finished
+-- a phase as the machine has it
 abbrev pub phase_of : Phase → MachinePhase
 phase_of phase.Gathering = machine_gathers
 phase_of phase.Sealed = machine_sealed
-phase_of phase.Written = machine_sealed
 phase_of phase.Doubt = machine_doubts
 
 -- the machine's record of a stabilisation. The label is the server's own

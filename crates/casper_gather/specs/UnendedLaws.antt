@@ -1,9 +1,9 @@
-use Rattle.std.specs.Prelude.{◌≡◌, ℕ, ◌==◌, List, ◌++◌, ◌∷◌, [], Some, not, cond, map, filter, find, option_map, Contains}
+use Rattle.std.specs.Prelude.{◌≡◌, ℕ, ◌==◌, List, ◌++◌, ◌∷◌, [], Some, not, ◌&&◌, cond, map, filter, find, option_map, Contains}
 use Rattle.casper_words.specs.Crew.{has_member}
-use Rattle.casper_model.specs.Stabilisation.{Stabilisation, is_doubtful as machine_doubts}
+use Rattle.casper_model.specs.Stabilisation.{Stabilisation, is_sealed as machine_sealed, is_doubtful as machine_doubts}
 use Rattle.casper_gather.specs.declared.stab.Stab.{Stab}
 use Rattle.casper_gather.specs.Bookkeeping.{stabilisation_of, without_asker}
-use Rattle.casper_gather.specs.Unended.{led_by, led_among, first_in, is_doubtful, with_changed, but_led_among, without_asker_of_each}
+use Rattle.casper_gather.specs.Unended.{led_by, led_among, sealed_by, first_in, is_doubtful, with_changed, but_led_among, without_asker_of_each}
 
 -- the machine's list of stabilisations
 abbrev pub stabilisations_of : List Stab → List Stabilisation
@@ -21,6 +21,11 @@ FoundByLead = (lead : ℕ) (each : List Stab) → option_map stabilisation_of (l
 abbrev pub FoundByMembers : Type 0
 FoundByMembers = (members : List ℕ) (each : List Stab)
     → option_map stabilisation_of (led_among members each) ≡ find (λ one. has_member one.lead members) (stabilisations_of each)
+
+-- and the sealed one of a lead
+abbrev pub FoundSealed : Type 0
+FoundSealed = (lead : ℕ) (each : List Stab)
+    → option_map stabilisation_of (sealed_by lead each) ≡ find (λ one. (one.lead == lead) && machine_sealed one.phase) (stabilisations_of each)
 
 -- and the one in doubt
 abbrev pub FoundInDoubt : Type 0

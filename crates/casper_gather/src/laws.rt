@@ -1,7 +1,7 @@
 ghost use Rattle.casper_gather.specs.AskerLaws.{LeadIsAsker, WhoAsksIsAsker, OtherAskersStay, WhoIsGoneIsNoAsker, OtherAskersAreKept, AskersAreToldOnce};
 ghost use Rattle.casper_gather.specs.FinishLaws.{FinishCarriesOut, NotedLossIsCarriedOut, FailureIsTold, DoubtKeepsTheLoss};
 ghost use Rattle.casper_gather.specs.GatherLaws.{BegunGathers, BegunSealed, GathersForTheOthers, LastMemberSeals};
-ghost use Rattle.casper_gather.specs.UnendedLaws.{FoundByLead, FoundByMembers, FoundInDoubt, ChangedAsInTheMachine, EndedAsInTheMachine, ForgottenAsInTheMachine, BegunAsInTheMachine};
+ghost use Rattle.casper_gather.specs.UnendedLaws.{FoundByLead, FoundByMembers, FoundSealed, FoundInDoubt, ChangedAsInTheMachine, EndedAsInTheMachine, ForgottenAsInTheMachine, BegunAsInTheMachine};
 
 /// The laws of gathering: how long it lasts and what ends it, as contracts of a call that does nothing.
 pub fn gather_laws()
@@ -34,6 +34,7 @@ pub fn finish_laws()
 pub fn unended_laws()
     ensures found { FoundByLead }
     ensures by_members { FoundByMembers }
+    ensures sealed { FoundSealed }
     ensures in_doubt { FoundInDoubt }
     ensures begun { BegunAsInTheMachine }
     ensures changed { ChangedAsInTheMachine }

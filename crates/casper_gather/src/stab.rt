@@ -14,8 +14,6 @@ pub enum Phase {
     Gathering,
     /// All members have handed in.
     Sealed,
-    /// It was written out, and is not finished.
-    Written,
     /// Its write-out ended in doubt.
     Doubt,
 }
@@ -100,7 +98,7 @@ impl Stab {
     {
         match self.phase {
             Phase::Gathering => StabReply::Gathering(self.left),
-            Phase::Sealed | Phase::Written => StabReply::Doing(self.lead),
+            Phase::Sealed => StabReply::Doing(self.lead),
             Phase::Doubt => StabReply::Doubtful(self.lead),
         }
     }

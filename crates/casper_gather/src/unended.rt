@@ -1,5 +1,5 @@
 ghost use Rattle.std.specs.Prelude.{◌≡◌, ◌+◌, ◌<◌, ◌≤◌, ◌++◌, ◌∷◌, [], OnOk, OnErr, IsOk, vec_len, vec_capacity};
-ghost use Rattle.casper_gather.specs.Unended.{led_by, led_among, first_in, is_sealed, is_doubtful, with_changed, but_led_among, without_asker_of_each};
+ghost use Rattle.casper_gather.specs.Unended.{led_by, led_among, sealed_by, first_sealed_in, sealed_leads, first_in, is_doubtful, with_changed, but_led_among, without_asker_of_each};
 
 use crate::{Phase, Stab};
 use casper_words::{Crew, Memory, Who};
@@ -80,11 +80,18 @@ impl Unended {
         first_led_among(&self.each, members)
     }
 
-    /// The first one that is sealed and was not written out.
-    pub fn first_sealed(&self) -> Option<Stab>
-        ensures { result ≡ first_in is_sealed self.now.each }
+    /// The sealed one with this lead.
+    pub fn sealed_by(&self, lead: Who) -> Option<Stab>
+        ensures { result ≡ sealed_by lead self.now.each }
     {
-        first_sealed_of(&self.each)
+        sealed_one_of(&self.each, lead)
+    }
+
+    /// The least lead of those that are sealed.
+    pub fn first_sealed(&self) -> Option<Who>
+        ensures { result ≡ first_sealed_in self.now.each }
+    {
+        sealed_leads(&self.each).least()
     }
 
     /// The one in doubt.
@@ -131,10 +138,25 @@ fn first_led_among(each: &[Stab], members: Crew) -> Option<Stab>
     each.iter().find(|one| members.has(one.lead)).copied()
 }
 
-fn first_sealed_of(each: &[Stab]) -> Option<Stab>
-    ensures { result ≡ first_in is_sealed each.now }
+fn sealed_one_of(each: &[Stab], lead: Who) -> Option<Stab>
+    ensures { result ≡ sealed_by lead each.now }
 {
-    each.iter().find(|one| one.phase == Phase::Sealed).copied()
+    each.iter()
+        .find(|one| one.lead == lead && one.phase == Phase::Sealed)
+        .copied()
+}
+
+/// The leads of those that are sealed.
+fn sealed_leads(each: &[Stab]) -> Crew
+    ensures { result ≡ sealed_leads each.now }
+{
+    let mut leads = Crew::none();
+    for one in each {
+        if one.phase == Phase::Sealed {
+            leads = leads.with(one.lead);
+        }
+    }
+    leads
 }
 
 fn doubtful_of(each: &[Stab]) -> Option<Stab>

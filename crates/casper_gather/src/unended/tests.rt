@@ -17,7 +17,8 @@ fn they_begin_change_and_end(rt: HostRuntime) -> Result<(), Fail> {
     let mut second = all.led_by(two).ok_or("not found")?;
     second.handed(three);
     all.change(second);
-    assert_eq!(rt; all.first_sealed(), Some(second));
+    assert_eq!(rt; all.first_sealed(), Some(two));
+    assert_eq!(rt; all.sealed_by(two), Some(second));
     assert_eq!(rt;
         all.led_among(Crew::none().with(two).with(three)),
         Some(second)
