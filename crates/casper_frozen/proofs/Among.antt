@@ -26,13 +26,11 @@ use Rattle.casper_frozen.specs.Finding.{is_gathering, gathering_among, frozen_am
 gathers_alike : (how : Phase) → is_gathering how ≡ machine_gathers (phase_of how)
 gathers_alike phase.Gathering = refl
 gathers_alike phase.Sealed = refl
-gathers_alike phase.Written = refl
 gathers_alike phase.Doubt = refl
 
 doubts_alike : (how : Phase) → is_doubtful how ≡ machine_doubts (phase_of how)
 doubts_alike phase.Gathering = refl
 doubts_alike phase.Sealed = refl
-doubts_alike phase.Written = refl
 doubts_alike phase.Doubt = refl
 
 -- what passes a test is found in a list of those that pass another where it passes both

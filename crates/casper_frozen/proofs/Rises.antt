@@ -1,7 +1,11 @@
-use Rattle.std.proofs.Common.{◌≡◌, ◌<◌, ℕ, List, [], ◌∷◌, Bool, true, false, ◌==◌, ◌||◌, cond, nat_eq, refl, ap, ◌∙◌, arith}
+use Rattle.std.proofs.Common.{◌≡◌, ◌≢◌, ◌⊎◌, ◌<◌, ◌≤◌, ℕ, zero, suc, List, [], ◌∷◌, Bool, true, false, ◌==◌, ◌||◌, cond, nat_eq, refl, sym, ap, ap₂, ◌∙◌, ⊎_elim, inl, inr, true≢false, arith}
 use Rattle.std.specs.Prelude.{nat_lt}
-use Rattle.std.specs.List.{IsDistinct, AllByRecursion}
-use Rattle.std.proofs.lemmas.Bool.{cond_both, eqb-true, eqb-false, ne_eqb, ltb-true, ltb-false}
+use Rattle.std.specs.List.{IsDistinct, AllByRecursion, AllPairs}
+use Rattle.std.specs.List.Sorted.{IsStrictlyIncreasing}
+use Rattle.std.proofs.lemmas.List.Kept.{AllPairs-from_increasing}
+use Rattle.std.proofs.lemmas.Cmp.{nat_eq_equiv}
+use Rattle.std.proofs.lemmas.List.Elements.{recursion_from_All}
+use Rattle.std.proofs.lemmas.Bool.{cond_both, cases_eq, or_left, eqb-true, eqb-false, ne_eqb, ltb-true, ltb-false, cases_lt}
 use Rattle.casper_space.specs.Rising.{with_number, with_numbers, rising}
 use Rattle.casper_assoc.specs.Written.{is_listed}
 
@@ -95,3 +99,64 @@ or_false false = refl
 -- a rising list has the numbers that it was made of
 pub rising_lists : (numbers : List ℕ) (page : ℕ) → is_listed page (rising numbers) ≡ is_listed page numbers
 rising_lists numbers page = listed_with_all numbers [] page ∙ or_false (is_listed page numbers)
+
+-- the numbers of a list by place rise by recursion too
+rises_from_pairs : (list : List ℕ) → AllPairs (λ x y. x < y) list → Rises list
+rises_from_pairs [] pairs = tt
+rises_from_pairs (first ∷ rest) pairs = (
+  recursion_from_All (λ one. first < one) rest (λ k d within. pairs zero (suc k) d (omega arith) (omega (arith, within))),
+  rises_from_pairs rest (λ i j d before within. pairs (suc i) (suc j) d (omega (arith, before)) (omega (arith, within))),
+)
+
+not_listed : (list : List ℕ) (low : ℕ) → AllByRecursion (λ one. low < one) list → is_listed low list ≡ false
+not_listed [] low all = refl
+not_listed (first ∷ rest) low all =
+    ap (λ (b : Bool). b || is_listed low rest) (ne_eqb low first (λ same. omega (arith, same, all.0))) ∙ not_listed rest low all.1
+
+sides : (first second : ℕ) → first ≢ second → (first < second) ⊎ (second < first)
+sides first second apart = ⊎_elim (λ (below : first < second). inl below) (λ (over : second ≤ first). inr (grind (arith, over, apart))) (cases_lt first second)
+
+-- of two rising lists with the same numbers, the least are the same
+least_is : (first second : ℕ) (rest others : List ℕ) → Rises (first ∷ rest) → Rises (second ∷ others)
+    → is_listed first (first ∷ rest) ≡ is_listed first (second ∷ others) → is_listed second (first ∷ rest) ≡ is_listed second (second ∷ others)
+    → first ≡ second
+least_is first second rest others rises above here there =
+    ⊎_elim
+    (λ (same : first ≡ second). same)
+    (λ (apart : first ≢ second). absurd (⊎_elim
+    (λ (below : first < second).
+    true≢false (sym (or_left (first == first) (is_listed first rest) (nat_eq_equiv.refl first)) ∙ here
+    ∙ not_listed (second ∷ others) first (below, above_less others first second below above.0)))
+    (λ (over : second < first).
+    true≢false (sym (or_left (second == second) (is_listed second others) (nat_eq_equiv.refl second)) ∙ sym there
+    ∙ not_listed (first ∷ rest) second (over, above_less rest second first over rises.0)))
+    (sides first second apart)))
+    (cases_eq first second)
+
+-- rising lists with the same numbers are the same
+same_rising : (list other : List ℕ) → Rises list → Rises other → ((page : ℕ) → is_listed page list ≡ is_listed page other) → list ≡ other
+same_rising [] [] rises above same = refl
+same_rising [] (second ∷ others) rises above same =
+    absurd (true≢false (sym (or_left (second == second) (is_listed second others) (nat_eq_equiv.refl second)) ∙ sym (same second)))
+same_rising (first ∷ rest) [] rises above same =
+    absurd (true≢false (sym (or_left (first == first) (is_listed first rest) (nat_eq_equiv.refl first)) ∙ same first))
+same_rising (first ∷ rest) (second ∷ others) rises above same =
+    let least = least_is first second rest others rises above (same first) (same second) in
+    ap₂ (λ (x : ℕ) (xs : List ℕ). x ∷ xs) least (same_rising rest others rises.1 above.1 (λ page. without page least))
+  where
+    without : (page : ℕ) → first ≡ second → is_listed page rest ≡ is_listed page others
+    without page least =
+        ⊎_elim
+        (λ (at : page ≡ first).
+        ap (λ (p : ℕ). is_listed p rest) at ∙ not_listed rest first rises.0
+        ∙ sym (ap (λ (p : ℕ). is_listed p others) (at ∙ least) ∙ not_listed others second above.0))
+        (λ (other : page ≢ first).
+        ap (λ (b : Bool). b || is_listed page rest) (sym (ne_eqb page first other)) ∙ same page
+        ∙ ap (λ (b : Bool). b || is_listed page others) (ne_eqb page second (λ at. other (at ∙ sym least))))
+        (cases_eq page first)
+
+-- a rising list is that of its numbers
+pub rising_is_one : (list numbers : List ℕ) → IsStrictlyIncreasing list → ((page : ℕ) → is_listed page list ≡ is_listed page (rising numbers))
+    → list ≡ rising numbers
+rising_is_one list numbers rises same =
+    same_rising list (rising numbers) (rises_from_pairs list (AllPairs-from_increasing list rises)) (rises_with_all numbers [] tt) same

@@ -10,7 +10,6 @@ use Rattle.casper_gather.specs.Unended.{is_doubtful}
 abbrev pub is_gathering : Phase → Bool
 is_gathering phase.Gathering = true
 is_gathering phase.Sealed = false
-is_gathering phase.Written = false
 is_gathering phase.Doubt = false
 
 -- the first one that gathers and whose lead is among these
