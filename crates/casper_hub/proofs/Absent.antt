@@ -11,32 +11,19 @@ use Rattle.casper_model.specs.Held.{allows}
 use Rattle.casper_model.specs.Leave.{absent}
 use Rattle.casper_model.specs.Own.{Own, blank}
 use Rattle.casper_model.specs.Shared.{Shared, client_at, rights_at, of_client}
-use Rattle.casper_model.specs.Stabilisation.{Stabilisation}
 use Rattle.casper_model.proofs.Places.{client_placed, client_unplaced}
 use Rattle.casper_turns.proofs.Lists.{not_some}
 use Rattle.casper_turns.proofs.Stages.{kept_absent}
-use Rattle.casper_hub.specs.HubView.{HubView, client_in, right_in}
+use Rattle.casper_hub.specs.HubView.{HubView, client_in, frame_in, right_in}
 use Rattle.casper_hub.specs.Losing.{MayWriteNothing, BecomesAbsent}
 use Rattle.casper_hub.specs.Shows.{permits, Shows, ShowsClient}
 use Rattle.casper_hub.specs.Sound.{IsSound, IsWellFormed, Stands}
 use Rattle.casper_hub.specs.Words.{live_value, stored_value, AreWords, FramesAreRight}
-use Rattle.casper_hub.proofs.Changing.{formed_changed, same_rights}
+use Rattle.casper_hub.proofs.Changing.{formed_beside, formed_changed, same_rights}
 use Rattle.casper_hub.proofs.Giving.{writer_stays}
 use Rattle.casper_hub.proofs.StandsFor.{stands_for, standing}
 
 -- A hub of which one client became absent.
-
--- the parts of a hub fit together whatever is being made stable
-pub formed_with : (hub : HubView) (list : List Stabilisation) → IsWellFormed hub → IsWellFormed (record hub { stabilisations = list })
-formed_with hub list formed = record {
-  places = formed.places;
-  holders = formed.holders;
-  frames = formed.frames;
-  short = formed.short;
-  fits = formed.fits;
-  framed = formed.framed;
-  asked = formed.asked;
-}
 
 module _ (who : ℕ) (hub after : HubView) (gone : BecomesAbsent who hub after) (is : IsClient who) (formed : IsWellFormed hub) where
   -- the hub without the client
@@ -101,15 +88,19 @@ module _ (who : ℕ) (hub after : HubView) (gone : BecomesAbsent who hub after) 
       other_there : (other : ℕ) → other ≢ who → client_at then_ other ≡ client_at shared other
       other_there other apart = client_unplaced own.who None shared other (λ here. apart (here ∙ same))
 
+  -- the server has the frames that it had
+  frame_stays : (page : ℕ) → IsSome (frame_in hub.pages page) → IsSome (frame_in after.pages page)
+  frame_stays page framed = subst (λ frames. IsSome (slice_index_or frames page None)) (sym gone.frames) framed
+
   -- so it is sound
   formed_absent : IsWellFormed after
   formed_absent =
       subst IsWellFormed (sym gone.hub_is)
-      (formed_with (record hub { clients = slice_set hub.clients who None; pages = after.pages }) (map (without_asker who) hub.stabilisations)
+      (formed_beside (record hub { clients = slice_set hub.clients who None; pages = after.pages }) (map (without_asker who) hub.stabilisations)
       (formed_changed hub hub.trail who None after.pages formed is (λ ask inside. absurd (omega (arith, inside.1))) gone.pages (ap length gone.frames) gone.holders
       (λ client page one differ. right_stays client page differ)
       (λ page writes. absurd (not_some may.Write (sym (right_gone page) ∙ writes)))
-      (λ page framed. subst (λ frames. IsSome (slice_index_or frames page None)) (sym gone.frames) framed)))
+      frame_stays (λ page modified. frame_stays page (formed.modified page modified))))
 
   stands_absent : Stands hub → Stands after
   stands_absent stands =

@@ -106,6 +106,7 @@ formed_beside hub stabilisations formed = record {
   short = formed.short;
   fits = formed.fits;
   framed = formed.framed;
+  modified = formed.modified;
   asked = formed.asked;
 }
 
@@ -127,8 +128,9 @@ module _ (hub : HubView) (trail : List Item) (who : ℕ) (place : Option ClientV
       → ((client page : ℕ) → IsClient client → client ≢ who → right_at pages.rights client page ≡ right_at hub.pages.rights client page)
       → ((page : ℕ) → right_at pages.rights who page ≡ Some may.Write → IsSome (frame_in pages page))
       → ((page : ℕ) → IsSome (frame_in hub.pages page) → IsSome (frame_in pages page))
+      → ((page : ℕ) → is_modified trail page ≡ true → IsSome (frame_in pages page))
       → IsWellFormed (changed hub trail who place pages)
-  formed_changed formed client asked count frames holders others framed_here framed = record {
+  formed_changed formed client asked count frames holders others framed_here framed modified = record {
     places = length-set hub.clients who place ∙ formed.places;
     holders = holders;
     frames = frames ∙ formed.frames ∙ sym count;
@@ -138,6 +140,7 @@ module _ (hub : HubView) (trail : List Item) (who : ℕ) (place : Option ClientV
         (λ same. framed_here page (sym (ap (λ (w : ℕ). right_at pages.rights w page) same) ∙ is))
         (λ differ. framed page (formed.framed other page (sym (any other page differ) ∙ is)))
         (cases_eq other who);
+    modified = modified;
     asked = λ other ask inside. subst (λ n. ask.page < n) (sym count) (⊎_elim
         (λ same.
         asked ask (subst (λ (o : Option ClientView). Contains (asks_of o) ask)

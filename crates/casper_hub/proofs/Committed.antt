@@ -9,7 +9,7 @@ use Rattle.casper_trail.specs.declared.item.Item.{Item}
 use Rattle.casper_trail.specs.declared.item.Item.TheVariants as item
 use Rattle.casper_trail.specs.declared.mark.Mark.TheVariants.{Commit}
 use Rattle.casper_trail.specs.Association.{association_of}
-use Rattle.casper_trail.specs.Modified.{is_modified_by}
+use Rattle.casper_trail.specs.Modified.{is_modified, is_modified_by}
 use Rattle.casper_dir.specs.declared.holders.Holders.{Holders}
 use Rattle.casper_dir.specs.Rights.{AreAllClients, right_at}
 use Rattle.casper_model.specs.declared.outcome.Kept.{Kept}
@@ -28,6 +28,8 @@ use Rattle.casper_hub.specs.Shows.{permits, Shows, ShowsClient}
 use Rattle.casper_hub.specs.Sound.{IsSound, IsWellFormed, StandsFor}
 use Rattle.casper_hub.proofs.FinishedKept.{committed_kept, failed_kept}
 use Rattle.casper_hub.proofs.Holders.{holder_is_member}
+use Rattle.casper_hub.proofs.KeptUp.{clients_recorded}
+use Rattle.casper_hub.proofs.MarkedPages.{frame_of_others, modified_framed}
 use Rattle.casper_hub.proofs.ShownAfter.{shown_by_others}
 use Rattle.casper_hub.proofs.StandsFor.{stands_for, standing}
 use Rattle.casper_hub.proofs.Whole.{marked_sound}
@@ -115,6 +117,9 @@ module _ (one : Stabilisation) (outcome : Kept) (hub after : HubView) (ends : En
     fits = subst (λ n. n < 2 ^ 32) (sym ends.limit) sound.formed.fits;
     framed = λ who page.
         subst (λ (pages : PagesView). right_at pages.rights who page ≡ Some may.Write → IsSome (frame_in pages page)) (sym ends.pages) (sound.formed.framed who page);
+    modified = λ page is.
+        subst (λ (pages : PagesView). IsSome (frame_in pages page)) (sym ends.pages)
+        (sound.formed.modified page (subst (λ (items : List Item). is_modified items page ≡ true) ends.trail is));
     asked = λ who ask inside.
         subst (λ (pages : PagesView). ask.page < length pages.rights) (sym ends.pages)
         (sound.formed.asked who ask
@@ -191,7 +196,10 @@ module _ (one : Stabilisation) (hub after : HubView) (commits : Commits one hub 
           let others : is_modified_by members hub.trail page ≡ false =
           false_from_ne_true (is_modified_by members hub.trail page)
           (λ modified. no_writer who page (holder_is_member one.lead hub sound who page (ap is_some had) modified) had) in
-          subst (λ (o : Option (List ℕ)). IsSome o) (sym (commits.frames page ∙ ap (λ b. cond b None (frame_in hub.pages page)) others)) (sound.formed.framed who page had);
+          frame_of_others hub.trail one.lead (Commit one.lead members) refl hub.pages after.pages commits.frames page others (sound.formed.framed who page had);
+      modified = λ page is.
+          modified_framed hub.trail one.lead (Commit one.lead members) refl hub.pages after.pages commits.frames (clients_recorded hub sound.stands) sound.formed.modified page
+          (subst (λ (items : List Item). is_modified items page ≡ true) commits.trail is);
       asked = λ who ask within.
           subst (λ (rights : List Holders). ask.page < length rights) (sym commits.rights)
           (sound.formed.asked who ask

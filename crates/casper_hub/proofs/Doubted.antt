@@ -14,6 +14,7 @@ use Rattle.casper_hub.specs.Committing.{ComesIntoDoubt, in_doubt}
 use Rattle.casper_hub.specs.HubView.{HubView}
 use Rattle.casper_hub.specs.Shows.{Shows}
 use Rattle.casper_hub.specs.Sound.{IsSound, Stands}
+use Rattle.casper_hub.proofs.Changing.{formed_beside}
 use Rattle.casper_hub.proofs.FinishedKept.{doubted_kept}
 use Rattle.casper_hub.proofs.StandsFor.{stands_for, standing}
 
@@ -70,15 +71,7 @@ doubted_sound hub sound doubtful comes =
     let before = stands_for hub sound.stands in
     let lead : comes.0.lead ≡ doubtful.lead = sym (ap (λ (one : Stabilisation). one.lead) comes.3) in
     let inside : Contains before.shared.stabilisations comes.0 = subst (λ (all : List Stabilisation). Contains all comes.0) (sym before.shows.stabilisations) comes.1 in record {
-      formed = record {
-        places = sound.formed.places;
-        holders = sound.formed.holders;
-        frames = sound.formed.frames;
-        short = sound.formed.short;
-        fits = sound.formed.fits;
-        framed = sound.formed.framed;
-        asked = sound.formed.asked;
-      };
+      formed = formed_beside hub (in_doubt doubtful.lead hub).stabilisations sound.formed;
       stands = subst (λ n. Stands (in_doubt n hub)) lead
           (standing (in_doubt comes.0.lead hub) (record {
             shared = change_stabilisation comes.0.lead (λ other. record other { phase = Doubtful }) before.shared;

@@ -92,6 +92,11 @@ module _ (hub : HubView) (own : cache.Own) (wants missing : List Want) (after : 
   whole_before : Whole turn.grants.opened
   whole_before = opened_is_sound hub own wants missing after own_after turn
 
+  -- the server has the frames that it had
+  frame_granted : (page : ℕ) → IsSome (frame_in turn.grants.opened.pages page) → IsSome (frame_in after.pages page)
+  frame_granted page is =
+      turn.grants.gives.framed page (subst (λ (frames : List (Option (List ℕ))). IsSome (get_or frames page None)) (sym turn.grants.granted_frames) is)
+
   -- the parts of the hub fit together
   pub granted_formed : IsWellFormed after
   granted_formed =
@@ -101,7 +106,9 @@ module _ (hub : HubView) (own : cache.Own) (wants missing : List Want) (after : 
       (turn.grants.gives.rights_count ∙ turn.grants.granted_count) (turn.grants.gives.frames_count ∙ ap length turn.grants.granted_frames) turn.grants.gives.holders
       (λ client page is differ. turn.grants.gives.others client page is differ ∙ turn.grants.granted_others client page is differ)
       (granted_framed hub own wants missing after own_after turn)
-      (λ page is. turn.grants.gives.framed page (subst (λ (frames : List (Option (List ℕ))). IsSome (get_or frames page None)) (sym turn.grants.granted_frames) is)))
+      frame_granted
+      (λ page modified. frame_granted page (whole_before.sound.formed.modified page
+      (sym (modified_elsewhere turn.grants.opened.trail (touches_by own.client missing) page (touches_write_nothing own.client missing page)) ∙ modified))))
 
   same_client : own_after.client ≡ own.client
   same_client = ap (λ (o : cache.Own). o.client) turn.grants.own_is ∙ ap (λ (o : cache.Own). o.client) turn.grants.opens.own_is

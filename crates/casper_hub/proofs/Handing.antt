@@ -1,4 +1,4 @@
-use Rattle.std.proofs.Common.{◌≡◌, ◌≤◌, ◌<◌, ◌^◌, ℕ, List, [], map, ◌&&◌, length, append-nil, refl, sym, ap, ap₂, ◌∙◌, subst, ⊎_elim, arith}
+use Rattle.std.proofs.Common.{◌≡◌, ◌≤◌, ◌<◌, ◌^◌, ℕ, List, [], map, true, ◌&&◌, length, append-nil, refl, sym, ap, ap₂, ◌∙◌, subst, ⊎_elim, arith}
 use Rattle.std.specs.Prelude.{Option, None, Some, is_some, option_map, find, Contains, ◌+◌}
 use Rattle.std.proofs.lemmas.Bool.{cases_eq}
 use Rattle.casper_words.specs.Crew.{has_member}
@@ -152,6 +152,8 @@ module _ (hub : HubView) (own : cache.Own) (list : List Stabilisation) (after : 
         (λ differ. hands.gives.framed page (sound.framed other page
         (sym (same_rights hub.pages.rights after.pages.rights page other sound.holders hands.gives.holders (λ client. hands.gives.others other page client differ)) ∙ is)))
         (cases_eq other own.client);
+    modified = λ page is.
+        hands.gives.framed page (sound.sound.formed.modified page (subst (λ (h : HubView). is_modified h.trail page ≡ true) hands.hub_is is));
     asked = λ who ask inside.
         subst (λ n. ask.page < n) (sym hands.gives.rights_count) (sound.asked who ask (subst (λ (h : HubView). Contains (asks_in h who) ask) hands.hub_is inside));
   }

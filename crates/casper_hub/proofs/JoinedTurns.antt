@@ -102,7 +102,7 @@ full_join who entries hub sound gone none count = record {
 pub joined_formed : (hub : HubView) (who cap : ℕ) → IsWellFormed hub → IsClient who → IsWellFormed (with_client hub who cap)
 joined_formed hub who cap formed client =
     formed_changed hub hub.trail who (Some (new_client_view cap)) hub.pages formed client (λ ask inside. absurd (omega (arith, inside.1)))
-    refl refl formed.holders (λ other page is apart. refl) (λ page is. formed.framed who page is) (λ page is. is)
+    refl refl formed.holders (λ other page is apart. refl) (λ page is. formed.framed who page is) (λ page is. is) formed.modified
 
 -- after a join the hub stands for the machine after it
 joined_shows : (shared : Shared) (hub : HubView) (who cap : ℕ) → Shows shared hub → Whole hub → IsClient who → is_some (client_in hub who) ≡ false

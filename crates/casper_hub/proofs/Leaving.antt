@@ -28,7 +28,8 @@ module _ (hub : HubView) (own : cache.Own) (after : HubView) (own_after : cache.
       (formed_changed leaves.opened leaves.opened.trail own.client None after.pages opened_before_leaving.sound.formed owns.client
       (λ ask inside. absurd (omega (arith, inside.1)))
       leaves.gives.rights_count leaves.gives.frames_count leaves.gives.holders leaves.gives.others
-      (framed_left own.client leaves.opened leaves.opened_own.held [] after.pages opened_before_leaving leaves.gives) leaves.gives.framed))
+      (framed_left own.client leaves.opened leaves.opened_own.held [] after.pages opened_before_leaving leaves.gives) leaves.gives.framed
+      (λ page modified. leaves.gives.framed page (opened_before_leaving.sound.formed.modified page modified))))
 
 -- the frames of the server stay right
 pub left_frames : (base : List (List ℕ)) (hub : HubView) (own : cache.Own) (after : HubView) (own_after : cache.Own) → Whole hub → Owning hub own

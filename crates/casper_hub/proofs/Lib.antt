@@ -33,6 +33,7 @@ pub mod Hitting
 pub mod Holders
 pub mod Installed
 pub mod Installing
+pub mod Jobs
 pub mod JoinedTurns
 pub mod KeptPages
 pub mod KeptUp

@@ -18,7 +18,7 @@ use Rattle.casper_hub.specs.HubView.{HubView, fallen_in}
 use Rattle.casper_hub.specs.Owned.{own_of, Owns}
 use Rattle.casper_hub.specs.Shows.{Shows}
 use Rattle.casper_hub.specs.Sound.{IsSound, Stands}
-use Rattle.casper_hub.proofs.Absent.{formed_with}
+use Rattle.casper_hub.proofs.Changing.{formed_beside}
 use Rattle.casper_hub.proofs.LostTurns.{IsHeldIn, with_stabilisations, noted_in, noted_now, lost_so}
 use Rattle.casper_hub.proofs.StandsFor.{stands_for, standing, going, good_with}
 use Rattle.casper_hub.proofs.Transport.{stands_behind, keeps_others, keeps_still}
@@ -65,7 +65,7 @@ pub noted_sound : (who : ℕ) (hub : HubView) (one : Stabilisation) → IsSound 
     → IsSound (with_stabilisations (noted_in who one hub.stabilisations) hub)
 noted_sound who hub one sound is up held =
     let after : HubView = with_stabilisations (noted_in who one hub.stabilisations) hub in record {
-      formed = formed_with hub (noted_in who one hub.stabilisations) sound.formed;
+      formed = formed_beside hub (noted_in who one hub.stabilisations) sound.formed;
       stands = lost_stands who hub after is (lost_so who hub after (Noted one.lead 0) up (noted_now who 0 hub one held)).shows sound.stands;
     }
 

@@ -1,5 +1,6 @@
-use Rattle.std.proofs.Common.{◌≡◌, ◌++◌, ℕ, List, [], ◌∷◌, true, false, not, filter, refl, sym, ap, ◌∙◌, subst, true≢false, Contains}
-use Rattle.std.proofs.lemmas.Bool.{not-true}
+use Rattle.std.proofs.Common.{◌≡◌, ◌++◌, ℕ, List, [], ◌∷◌, true, false, not, cond, filter, refl, sym, ap, ◌∙◌, subst, true≢false, Contains}
+use Rattle.std.specs.Prelude.{Option, None, IsSome}
+use Rattle.std.proofs.lemmas.Bool.{false_from_ne_true, not-true}
 use Rattle.casper_words.specs.Crew.{has_member}
 use Rattle.casper_trail.specs.declared.entry.Entry.{Entry}
 use Rattle.casper_trail.specs.declared.item.Item.{Item}
@@ -14,7 +15,8 @@ use Rattle.casper_trail.specs.Modified.{is_modified, is_modified_by}
 use Rattle.casper_trail.specs.PageLaws.{OpenWritersPass}
 use Rattle.casper_trail.proofs.Pages.{same_values, same_writes_of_a_page, value_after_mark, unmodified_page, page_of_others, page_of_association}
 use Rattle.casper_trail.proofs.Parts.{open_after_mark}
-use Rattle.casper_turns.proofs.Lists.{any_none, contains_filter, contains_filtered}
+use Rattle.casper_turns.proofs.Lists.{any_found, any_none, any_of, contains_filter, contains_filtered}
+use Rattle.casper_hub.specs.HubView.{PagesView, frame_in}
 
 -- The pages of a trail behind an exact mark.
 
@@ -71,3 +73,26 @@ module _ (items : List Item) (client : ℕ) (mark : Mark) (named : members_of ma
       (contains_filtered (λ (entry : Entry). not (has_member entry.who members)) (open_entries items) write inside
       (ap not (page_of_others members items page others write inside writes))))
       writes)
+
+  -- a page that is modified behind the mark was before, and by no member
+  modified_before : (page : ℕ) → AreOfClients items → is_modified (marked items mark) page ≡ true → (is_modified items page ≡ true) × (is_modified_by members items page ≡ false)
+  modified_before page clients modified =
+      let found = any_found (writes_page page) (open_entries (marked items mark)) modified in
+      let before = open_behind found.0 found.1 in (
+        any_of (writes_page page) (open_entries items) found.0 before.0 found.2,
+        false_from_ne_true (is_modified_by members items page)
+            (λ by_member. true≢false (sym (page_of_association items client page clients by_member found.0 before.0 found.2) ∙ before.1)),
+      )
+
+  -- the server drops its frames of the pages that a member modified
+  module _ (pages after : PagesView) (frames : (page : ℕ) → frame_in after page ≡ cond (is_modified_by members items page) None (frame_in pages page)) where
+    -- it has its frame of each other page
+    pub frame_of_others : (page : ℕ) → is_modified_by members items page ≡ false → IsSome (frame_in pages page) → IsSome (frame_in after page)
+    frame_of_others page others is =
+        subst (λ (o : Option (List ℕ)). IsSome o) (sym (frames page ∙ ap (λ b. cond b None (frame_in pages page)) others)) is
+
+    -- so it has a frame of each page that is modified, where it had
+    pub modified_framed : AreOfClients items → ((page : ℕ) → is_modified items page ≡ true → IsSome (frame_in pages page))
+        → (page : ℕ) → is_modified (marked items mark) page ≡ true → IsSome (frame_in after page)
+    modified_framed clients framed page modified =
+        let before = modified_before page clients modified in frame_of_others page before.1 (framed page before.0)

@@ -4,6 +4,7 @@ use Rattle.std.proofs.lemmas.Bool.{cases_lt, cond_both}
 use Rattle.std.proofs.lemmas.List.{get_or-replicate, get_or_past, length-replicate, length-set}
 use Rattle.casper_words.specs.declared.page.Want.{Want}
 use Rattle.casper_trail.specs.declared.item.Item.{Item}
+use Rattle.casper_trail.specs.Modified.{is_modified}
 use Rattle.casper_dir.specs.Rights.{right_at, AreAllClients}
 use Rattle.casper_model.specs.Client.{Client}
 use Rattle.casper_model.specs.Held.{allows}
@@ -57,6 +58,7 @@ module _ (count limit : ℕ) (stabilisations : List Stabilisation) (none : stabi
       short = subst (λ n. n < 2 ^ 32) (sym long) short;
       fits = fits;
       framed = λ who page is. absurd (true≢false (ap is_some (sym is ∙ free who page)));
+      modified = λ page is. absurd (true≢false (sym is ∙ ap (λ items. is_modified items page) empty));
       asked = λ who ask inside.
           let none : asks_of (place_in places who) ≡ [] = ap asks_of (nobody_live places are who) in
           let among : Contains [] ask = subst (λ (l : List Want). Contains l ask) none inside in
@@ -92,6 +94,9 @@ sound_supplied trail limit stabilisations places pages after page frame sound ri
     framed = λ who other is.
         subst (λ (l : List (Option (List ℕ))). IsSome (get_or l other None)) (sym frames)
         (frame_stays pages.frames page frame other (sound.formed.framed who other (ap (λ r. right_at r who other) (sym rights) ∙ is)));
+    modified = λ other is.
+        subst (λ (l : List (Option (List ℕ))). IsSome (get_or l other None)) (sym frames)
+        (frame_stays pages.frames page frame other (sound.formed.modified other is));
     asked = λ who ask inside. subst (λ n. ask.page < n) (sym (ap length rights)) (sound.formed.asked who ask inside);
   };
   stands = standing (hub_of trail limit stabilisations places after) (record {

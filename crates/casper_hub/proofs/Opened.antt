@@ -1,8 +1,8 @@
-use Rattle.std.proofs.Common.{◌≡◌, ◌≢◌, ◌<◌, ◌≤◌, ℕ, suc, ◌∙◌, List, [], ◌∷◌, ◌++◌, Bool, true, false, ◌&&◌, ◌||◌, ◌==◌, fold, length, get_or-set_same, filter_map, refl, sym, ap, subst, true≢false, Contains, arith}
+use Rattle.std.proofs.Common.{⊎_elim, ◌≡◌, ◌≢◌, ◌<◌, ◌≤◌, ℕ, suc, ◌∙◌, List, [], ◌∷◌, ◌++◌, Bool, true, false, ◌&&◌, ◌||◌, ◌==◌, fold, length, get_or-set_same, filter_map, refl, sym, ap, subst, true≢false, Contains, arith}
 use Rattle.std.specs.Prelude.{Option, None, Some, IsSome, is_some, option_map, option_and_then, MatchOption, min}
 use Rattle.std.specs.List.{cons_option, list_any}
 use Rattle.std.proofs.Math.Nat.{min-le_right}
-use Rattle.std.proofs.lemmas.Bool.{false_from_ne_true, and_parts, or_parts, eqb-true}
+use Rattle.std.proofs.lemmas.Bool.{false_from_ne_true, and_parts, or_cases, or_parts, eqb-true}
 use Rattle.casper_words.specs.declared.call.Op.{Op}
 use Rattle.casper_words.specs.declared.call.Op.TheVariants as op
 use Rattle.casper_words.specs.declared.call.Call.{Call}
@@ -23,7 +23,7 @@ use Rattle.casper_cache.specs.Own as cache
 use Rattle.casper_cache.proofs.Entries.{entry_of-page}
 use Rattle.casper_model.specs.LegalHistory.{right_for}
 use Rattle.casper_model.proofs.Entries.{contains_entry}
-use Rattle.casper_turns.proofs.Lists.{none_passes}
+use Rattle.casper_turns.proofs.Lists.{any_found, none_passes}
 use Rattle.casper_hub.specs.HubView.{HubView, ClientView, PagesView, client_in, cap_in, cap_of, asks_of, fallen_in, is_live, free_in, with_cap, begun_with, frame_in, items_behind}
 use Rattle.casper_hub.specs.Words.{live_value, stored_value, seen_value, AreWords, HasNoOpenWriter, ServerIsRight, HeldIsRight, FramesAreRight, CacheIsRight}
 use Rattle.casper_hub.specs.Shows.{permits}
@@ -129,10 +129,29 @@ pub framed_left : (who : ℕ) (hub : HubView) (held held_after : List Held) (aft
 framed_left who hub held held_after after sound gives page is =
     gives.framed page (sound.framed who page (writes_before (right_at hub.pages.rights who page) (right_at after.rights who page) (gives.falls page) is))
 
+-- the pending writes are on pages that their client may write
+written_held : (who : ℕ) (pages : PagesView) (calls : List Call) (page : ℕ) → WritesAreHeld who pages calls
+    → (entry : Entry) → Contains (entries_by who calls) entry → writes_page page entry ≡ true → right_at pages.rights who page ≡ Some may.Write
+written_held who pages calls page held entry inside writes =
+    let found = contains_entry who calls entry inside in
+    let call : Call = found.0 in
+    let as_call : (is_write call.op && (call.page == page)) ≡ true = ap (writes_page page) found.2 ∙ writes in
+    let parts = and_parts (is_write call.op) (call.page == page) as_call in
+    ap (right_at pages.rights who) (sym (eqb-true call.page page parts.1)) ∙ held call found.1 parts.0
+
 -- once a turn has opened the parts of the hub fit together
 module _ (who : ℕ) (hub : HubView) (own : cache.Own) (after : HubView) (own_after : cache.Own) (begins : Begins who hub own) (opens : Opens who hub own after own_after) where
   abbrev opened_place : Option ClientView
   opened_place = begun_with (topped own (free_in hub)) (client_in hub who)
+
+  -- a page is modified that was before, or that the client may write
+  modified_framed : (page : ℕ) → is_modified (hub.trail ++ as_items (entries_by who own.pending)) page ≡ true → IsSome (frame_in hub.pages page)
+  modified_framed page modified =
+      ⊎_elim (begins.sound.sound.formed.modified page)
+      (λ written.
+      let found = any_found (writes_page page) (entries_by who own.pending) written in
+      begins.sound.framed who page (written_held who hub.pages own.pending page begins.writes found.0 found.1 found.2))
+      (or_cases (is_modified hub.trail page) (list_any (writes_page page) (entries_by who own.pending)) (sym (modified_more hub.trail (entries_by who own.pending) page) ∙ modified))
 
   pub opened_formed : IsWellFormed after
   opened_formed =
@@ -140,7 +159,8 @@ module _ (who : ℕ) (hub : HubView) (own : cache.Own) (after : HubView) (own_af
       (formed_changed hub (hub.trail ++ as_items (entries_by who own.pending)) who opened_place after.pages begins.sound.sound.formed begins.covers.client
       (λ ask inside. begins.sound.asked who ask (subst (λ (asks : List Want). Contains asks ask) (asks_of_begun (topped own (free_in hub)) (client_in hub who)) inside))
       opens.gives.rights_count opens.gives.frames_count opens.gives.holders opens.gives.others
-      (framed_left who hub own.held own_after.held after.pages begins.sound opens.gives) opens.gives.framed)
+      (framed_left who hub own.held own_after.held after.pages begins.sound opens.gives) opens.gives.framed
+      (λ page modified. opens.gives.framed page (modified_framed page modified)))
 
 -- so the hub is sound
 pub opened_sound : (hub : HubView) (own : cache.Own) (held : List Held) (after : HubView) (own_after : cache.Own) → Begins own.client hub (record own { held = held })
@@ -148,16 +168,11 @@ pub opened_sound : (hub : HubView) (own : cache.Own) (held : List Held) (after :
 opened_sound hub own held after own_after begins owns opens =
     met_whole hub own held after own_after begins.sound owns opens (opened_formed own.client hub (record own { held = held }) after own_after begins opens)
 
--- the pending writes are on no page that their client may not write
+-- and on no page that their client may not write
 pub unwritten : (who : ℕ) (pages : PagesView) (calls : List Call) (page : ℕ) → WritesAreHeld who pages calls → right_at pages.rights who page ≢ Some may.Write
     → (entry : Entry) → Contains (entries_by who calls) entry → writes_page page entry ≡ false
 unwritten who pages calls page held never entry inside =
-    false_from_ne_true (writes_page page entry) (λ writes.
-    let found = contains_entry who calls entry inside in
-    let call : Call = found.0 in
-    let as_call : (is_write call.op && (call.page == page)) ≡ true = ap (writes_page page) found.2 ∙ writes in
-    let parts = and_parts (is_write call.op) (call.page == page) as_call in
-    never (ap (right_at pages.rights who) (sym (eqb-true call.page page parts.1)) ∙ held call found.1 parts.0))
+    false_from_ne_true (writes_page page entry) (λ writes. never (written_held who pages calls page held entry inside writes))
 
 -- a page that nobody holds for writing this client does not
 pub no_writer_no_right : (pages : PagesView) (page who : ℕ) → writer_at pages.rights page ≡ None → right_at pages.rights who page ≢ Some may.Write

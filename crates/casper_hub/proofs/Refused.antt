@@ -49,7 +49,7 @@ module _ (asks : List Want) (hub : HubView) (own : cache.Own) (after : HubView) 
       (formed_changed refuses.opened refuses.opened.trail own.client asking_place refuses.opened.pages refused_opened.sound.formed owns.client
       (asks_in_range asks (client_in refuses.opened own.client) (page_count refuses.opened)
       (λ ask inside. subst (λ n. ask.page < n) (sym (opening_count hub own refuses.opened own_after sound owns refuses.opens)) (range ask inside)))
-      refl refl refused_opened.holders (λ client page is differ. refl) (refused_opened.framed own.client) (λ page is. is))
+      refl refl refused_opened.holders (λ client page is differ. refl) (refused_opened.framed own.client) (λ page is. is) refused_opened.sound.formed.modified)
 
   -- its client has not fallen
   pub refused_up : fallen_in after own_after.client ≡ None

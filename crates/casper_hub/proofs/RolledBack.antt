@@ -1,5 +1,5 @@
 use Rattle.std.proofs.Common.{◌≡◌, ◌<◌, ◌^◌, ◌++◌, ℕ, List, [], ◌∷◌, Bool, true, false, not, cond, length, filter, refl, sym, ap, ◌∙◌, subst, true≢false, Contains, arith}
-use Rattle.std.specs.Prelude.{Option, None, Some, IsSome, is_some, option_map, option_and_then}
+use Rattle.std.specs.Prelude.{Option, None, Some, is_some, option_map, option_and_then}
 use Rattle.std.proofs.Math.Seq.{take-append_seam}
 use Rattle.std.proofs.lemmas.Bool.{false_from_ne_true}
 use Rattle.casper_words.specs.Crew.{has_member}
@@ -11,7 +11,7 @@ use Rattle.casper_trail.specs.declared.item.Item.TheVariants as item
 use Rattle.casper_trail.specs.declared.mark.Mark.TheVariants.{Rollback}
 use Rattle.casper_trail.specs.Parts.{live_entries}
 use Rattle.casper_trail.specs.Association.{association_of}
-use Rattle.casper_trail.specs.Modified.{is_modified_by}
+use Rattle.casper_trail.specs.Modified.{is_modified, is_modified_by}
 use Rattle.casper_trail.proofs.Rounds.{member_is_client}
 use Rattle.casper_model.specs.Client.{Client, Fallen}
 use Rattle.casper_model.specs.Held.{allows}
@@ -20,12 +20,14 @@ use Rattle.casper_model.specs.Loss as machine
 use Rattle.casper_model.specs.Shared.{Shared, client_at, rights_at, of_client}
 use Rattle.casper_model.specs.Stabilisation.{Stabilisation}
 use Rattle.casper_model.proofs.Places.{client_each, length_each}
-use Rattle.casper_hub.specs.HubView.{HubView, ClientView, FallenView, client_in, right_in, frame_in, asks_of, felled}
+use Rattle.casper_hub.specs.HubView.{HubView, ClientView, FallenView, client_in, right_in, asks_of, felled}
 use Rattle.casper_hub.specs.RollingBack.{RollsBack, fall_behind}
 use Rattle.casper_hub.specs.Shows.{permits, Shows, ShowsClient, ShowsLive}
 use Rattle.casper_hub.specs.Sound.{IsSound, IsWellFormed}
 use Rattle.casper_hub.proofs.Changing.{same_rights}
 use Rattle.casper_hub.proofs.Holders.{holder_is_member}
+use Rattle.casper_hub.proofs.KeptUp.{clients_recorded}
+use Rattle.casper_hub.proofs.MarkedPages.{frame_of_others, modified_framed}
 use Rattle.casper_hub.proofs.ShownAfter.{shown_by_others}
 use Rattle.casper_hub.proofs.Whole.{marked_sound}
 
@@ -140,7 +142,10 @@ module _ (lost : ℕ) (hub after : HubView) (rolls : RollsBack lost hub after) (
         let had : right_in hub who page ≡ Some may.Write = sym (not_revoked who page out) ∙ is in
         let others : is_modified_by members hub.trail page ≡ false =
         false_from_ne_true (is_modified_by members hub.trail page) (λ modified. true≢false (sym (holder_is_member lost hub sound who page (ap is_some had) modified) ∙ out)) in
-        subst (λ (o : Option (List ℕ)). IsSome o) (sym (rolls.frames page ∙ ap (λ b. cond b None (frame_in hub.pages page)) others)) (sound.formed.framed who page had);
+        frame_of_others hub.trail lost (Rollback lost members) refl hub.pages after.pages rolls.frames page others (sound.formed.framed who page had);
+    modified = λ page is.
+        modified_framed hub.trail lost (Rollback lost members) refl hub.pages after.pages rolls.frames (clients_recorded hub sound.stands) sound.formed.modified page
+        (subst (λ (items : List Item). is_modified items page ≡ true) rolls.trail is);
     asked = λ who ask inside.
         subst (λ n. ask.page < n) (sym rolls.pages)
         (sound.formed.asked who ask

@@ -29,6 +29,7 @@ use Rattle.casper_hub.specs.Stabilising.{Asks, AsksOrFreezes, Freezes, Stabilise
 use Rattle.casper_hub.specs.Turns.{IsTurn}
 use Rattle.casper_hub.specs.Words.{FramesAreRight, CacheIsRight}
 use Rattle.casper_hub.proofs.Awaited.{writers_shown}
+use Rattle.casper_hub.proofs.Changing.{formed_beside}
 use Rattle.casper_hub.proofs.Handing.{shows_handed, own_handed, formed_handed, few_handed, cache_handed, frames_handed, words_handed}
 use Rattle.casper_hub.proofs.LostTurns.{with_stabilisations, shows_with}
 use Rattle.casper_hub.proofs.Transport.{kept_by, keeps_others, keeps_still, stands_behind, owns_behind}
@@ -55,15 +56,7 @@ stays_listed : (hub : HubView) (own : cache.Own) (list : List Stabilisation) (af
     → after ≡ with_stabilisations list hub → own_after ≡ own → Stays hub own after own_after
 stays_listed hub own list after own_after sound owns hub_is own_is =
     rw (hub_is, own_is) (record {
-      formed = record {
-        places = sound.sound.formed.places;
-        holders = sound.sound.formed.holders;
-        frames = sound.sound.formed.frames;
-        short = sound.sound.formed.short;
-        fits = sound.sound.formed.fits;
-        framed = sound.sound.formed.framed;
-        asked = sound.sound.formed.asked;
-      };
+      formed = formed_beside hub list sound.sound.formed;
       cache = owns.sound;
       few = omega arith;
       client = refl;

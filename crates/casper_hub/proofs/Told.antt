@@ -129,7 +129,7 @@ module _ (hub : HubView) (own : cache.Own) (after : HubView) (own_after : cache.
       subst IsWellFormed (sym tells.hub_is)
       (formed_changed hub hub.trail own.client (risen (client_in hub own.client)) hub.pages tells.sound.sound.formed tells.client
       (λ ask inside. tells.sound.asked own.client ask (subst (λ (asks : List Want). Contains asks ask) (asks_risen (client_in hub own.client)) inside))
-      refl refl tells.sound.holders (λ client page is differ. refl) (tells.sound.framed own.client) (λ page is. is))
+      refl refl tells.sound.holders (λ client page is differ. refl) (tells.sound.framed own.client) (λ page is. is) tells.sound.sound.formed.modified)
 
   -- the client stays live, and its cache is sound
   pub told_live : is_live hub own.client ≡ true → is_live after own_after.client ≡ true

@@ -8,6 +8,7 @@ pub mod Handing
 pub mod HubFields
 pub mod HubView
 pub mod Installing
+pub mod Jobs
 pub mod Keeping
 pub mod Losing
 pub mod Owned

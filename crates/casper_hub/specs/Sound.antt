@@ -1,6 +1,7 @@
-use Rattle.std.specs.Prelude.{◌≡◌, ℕ, ◌<◌, ◌^◌, Some, Contains, length, IsSome}
+use Rattle.std.specs.Prelude.{◌≡◌, ℕ, ◌<◌, ◌^◌, true, Some, Contains, length, IsSome}
 use Rattle.casper_words.specs.declared.page.Right.TheVariants as may
 use Rattle.casper_words.specs.declared.page.Want.{Want}
+use Rattle.casper_trail.specs.Modified.{is_modified}
 use Rattle.casper_dir.specs.Rights.{AreAllClients}
 use Rattle.casper_model.specs.Shared.{Shared}
 use Rattle.casper_turns.specs.Good.{IsGoodShared}
@@ -8,7 +9,8 @@ use Rattle.casper_hub.specs.HubView.{HubView, right_in, frame_in, page_count, as
 use Rattle.casper_hub.specs.Shows.{Shows}
 
 -- the parts of a hub fit together: there is a place for each number, each holder of a page is a client, there are as many frames as
--- pages, the server has a frame of each page that somebody holds for writing, and asks name pages of the store
+-- pages, asks name pages of the store, the server has a frame of each page that somebody holds for writing, and the server has a frame of
+-- each page that is modified
 pub record IsWellFormed (hub : HubView) : Type 0 where
   pub places : length hub.clients ≡ 33
   pub holders : AreAllClients hub.pages.rights
@@ -16,6 +18,7 @@ pub record IsWellFormed (hub : HubView) : Type 0 where
   pub short : page_count hub < 2 ^ 32
   pub fits : hub.limit < 2 ^ 32
   pub framed : (who page : ℕ) → right_in hub who page ≡ Some may.Write → IsSome (frame_in hub.pages page)
+  pub modified : (page : ℕ) → is_modified hub.trail page ≡ true → IsSome (frame_in hub.pages page)
   pub asked : (who : ℕ) (ask : Want) → Contains (asks_in hub who) ask → ask.page < page_count hub
 
 -- a hub stands for a shared part of the machine that is good

@@ -19,10 +19,10 @@ ghost use Rattle.casper_hub.specs.Turns.{IsTurn, IsRefused, Acquires};
 
 use crate::Hub;
 use crate::decide::{Decision, decide, missing_of, permits};
-use crate::few::FewWants;
 use crate::install::{bring_to_front, grant, install, shrink};
 use crate::opening::{MOST_CAP, SPARE_MARKS, free_room, open, open_turn};
 use casper_cache::Cache;
+use casper_dir::FewWants;
 use casper_frozen::{Refusal, gathering_of, refusal_of};
 use casper_model::Reply;
 use casper_trail::Mark;

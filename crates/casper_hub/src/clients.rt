@@ -7,7 +7,7 @@ ghost use Rattle.casper_hub.specs.Places.{shown_fall};
 ghost use Rattle.casper_hub.specs.Stabilising.{kept_of};
 ghost use Rattle.casper_hub.specs.Asks.{are_for as are_among, asks_for};
 
-use crate::few::FewWants;
+use casper_dir::FewWants;
 use casper_model::Kept;
 use casper_words::{Crew, Memory, Page, Right, Want, Who};
 use std::alloc::Global;

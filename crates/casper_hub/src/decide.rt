@@ -6,8 +6,8 @@ ghost use Rattle.casper_hub.specs.Given.{right_kept as kept_in};
 ghost use Rattle.casper_hub.specs.Deciding.{missing_in, is_given as is_given_in, fell as has_fallen, stands_in_the_way, blockers_in, blocked_in, unframed_in, decision_for};
 
 use crate::clients::Clients;
-use crate::few::FewWants;
 use crate::pages::Pages;
+use casper_dir::FewWants;
 use casper_words::{Crew, Page, Right, Want, Who};
 
 /// What an acquire comes to.

@@ -1,8 +1,9 @@
 ghost use Rattle.casper_hub.specs.Standing.{EachHubStandsForSome};
 ghost use Rattle.casper_hub.specs.Relying.{KeptItself, KeptAgain, CommitsNothingItself, CommitsNothingAgain, ImageStands, LiveWhileKept, PagesWhileKept, OwnsWhileKept, RightWhileKept, OwnsBehindRead, OwnsBehindWrite, RightBehindRead, RightBehindWrite, HitsReadWhatIsSeen};
 
-/// What a client may rely on while others act, and what stays while nothing is committed. It does nothing.
-pub fn relying_laws()
+/// What a client may rely on while others act, what stays while nothing is committed, what a hit leaves and reads, and what a hub
+/// stands for. It does nothing.
+pub fn hub_laws()
     ensures kept_itself { KeptItself }
     ensures kept_again { KeptAgain }
     ensures nothing_itself { CommitsNothingItself }
@@ -12,18 +13,10 @@ pub fn relying_laws()
     ensures pages { PagesWhileKept }
     ensures owns { OwnsWhileKept }
     ensures right { RightWhileKept }
-{}
-
-/// What a hit leaves, and what it reads. It does nothing.
-pub fn hit_laws()
     ensures owns_read { OwnsBehindRead }
     ensures owns_write { OwnsBehindWrite }
     ensures right_read { RightBehindRead }
     ensures right_write { RightBehindWrite }
     ensures seen { HitsReadWhatIsSeen }
-{}
-
-/// What a hub stands for. It does nothing.
-pub fn standing_laws()
-    ensures { EachHubStandsForSome }
+    ensures stands { EachHubStandsForSome }
 {}

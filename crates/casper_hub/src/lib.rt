@@ -4,11 +4,11 @@
 mod acquire;
 mod clients;
 mod decide;
-mod few;
 mod finish;
 mod hand_in;
 mod hub;
 mod install;
+mod job;
 mod laws;
 mod leave;
 mod lose;
@@ -17,5 +17,6 @@ mod pages;
 mod stabilise;
 mod tell;
 
+pub use casper_frozen::Job;
 pub use hub::Hub;
-pub use laws::{hit_laws, relying_laws, standing_laws};
+pub use laws::hub_laws;

@@ -49,3 +49,21 @@ fn begins_a_stabilisation(rt: HostRuntime) -> Result<(), Fail> {
     assert_eq!(rt; hub.stabilise(first, &mut cache), Ok(StabReply::Sealed(0)));
     Ok(())
 }
+
+#[test]
+fn a_job_of_nothing_modified_is_empty(rt: HostRuntime) -> Result<(), Fail> {
+    let alloc = rt.alloc();
+    let mut hub = Hub::new(alloc, 4, 5000)?;
+    let first = Who::new(1).ok_or(Memory)?;
+    let mut cache = Cache::new(alloc, first, 8)?;
+    assert!(rt; hub.join(first).is_ok());
+    assert!(rt; hub.job(alloc, first)?.is_none());
+    cache.allow(hub.cap(first));
+    assert_eq!(rt; hub.stabilise(first, &mut cache), Ok(StabReply::Sealed(0)));
+    assert_eq!(rt; hub.first_sealed(), Some(first));
+    assert_eq!(rt; hub.doubtful(), None);
+    let job = hub.job(alloc, first)?.ok_or(Memory)?;
+    assert_eq!(rt; job.lead(), first);
+    assert!(rt; job.changes().is_empty());
+    Ok(())
+}
