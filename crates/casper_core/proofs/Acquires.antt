@@ -1,5 +1,5 @@
 use Rattle.std.proofs.Common.{◌≡◌, ◌≢◌, ℕ, List, Bool, true, false, not, refl, sym, ap, ◌∙◌, subst}
-use Rattle.std.specs.Prelude.{Option, None, Some, IsTrue, Contains}
+use Rattle.std.specs.Prelude.{Option, None, Some, is_none, IsTrue, Contains}
 use Rattle.casper_words.specs.declared.page.Want.{Want}
 use Rattle.casper_cache.specs.Own as cache
 use Rattle.casper_model.specs.declared.reply.Reply.{Reply}
@@ -13,20 +13,25 @@ use Rattle.casper_model.specs.Held.{allows, missing_of}
 use Rattle.casper_model.specs.Opening.{opened, handed_in_to, begun, given_up, gathering_of, given_in_opening}
 use Rattle.casper_model.specs.Acquire.{acquire, acquired_by, answered, refused_missing, refused_full, missing_once_opened}
 use Rattle.std.specs.Option.{option_or}
+use Rattle.casper_model.specs.declared.outcome.Kept.{Kept}
+use Rattle.casper_model.specs.Frozen.{stabilisation_of}
 use Rattle.casper_model.specs.Leave.{serve, served_by}
+use Rattle.casper_model.specs.Stabilise.{frozen_by, stabilised_in, stabilised, stabilised_by, kept_at, stabilise}
 use Rattle.casper_model.specs.Answers.{of_reply}
 use Rattle.casper_model.specs.Run.{is_disk}
-use Rattle.casper_hub.specs.HubView.{HubView}
+use Rattle.casper_hub.specs.HubView.{HubView, frame_in}
 use Rattle.casper_hub.specs.Owned.{Owns, own_of}
 use Rattle.casper_hub.specs.Sound.{IsSound}
-use Rattle.casper_hub.specs.GoesOn.{KeepsClient}
+use Rattle.casper_hub.specs.GoesOn.{KeepsClient, CommitsNothing}
 use Rattle.casper_hub.specs.Words.{FramesAreRight, CacheIsRight}
 use Rattle.casper_hub.specs.Turns.{IsTurn, IsLoad, Acquires}
 use Rattle.casper_core.specs.Acting.{KeepsHubRight, Holds}
 use Rattle.casper_core.specs.Loading.{OnlyLoads, LoadFails, AreStored}
-use Rattle.casper_core.proofs.Loads.{shows_loaded, kept_loaded, owns_loaded, right_loaded, stored_loaded, loads_again, found_among, found_some, is_unframed}
+use Rattle.casper_trail.specs.Modified.{is_modified}
+use Rattle.casper_core.proofs.Stored.{clean_unframed}
+use Rattle.casper_core.proofs.Loads.{shows_loaded, kept_loaded, still_loaded, owns_loaded, right_loaded, stored_loaded, loads_again, found_among, found_some, is_unframed}
 use Rattle.casper_hub.proofs.StandsFor.{stands_for}
-use Rattle.casper_hub.proofs.Relying.{kept_again}
+use Rattle.casper_hub.proofs.Relying.{kept_again, nothing_again}
 
 -- A turn leaves the capacity of its client's cache.
 
@@ -53,6 +58,24 @@ acquired_capacity shared own wants calls (Some fallen) = refl
 
 pub acquire_capacity : (shared : Shared) (own : Own) (wants : List Want) (calls : ℕ) → (acquire shared own wants calls).own.capacity ≡ own.capacity
 acquire_capacity shared own wants calls = acquired_capacity shared own wants calls (fallen_at shared own.who)
+
+frozen_capacity : (both : Both) → (frozen_by both).own.capacity ≡ both.own.capacity
+frozen_capacity both = refl
+
+stabilised_in_capacity : (both : Both) (found : Option Stabilisation) → (stabilised_in both found).own.capacity ≡ both.own.capacity
+stabilised_in_capacity both None = frozen_capacity both
+stabilised_in_capacity both (Some one) = refl
+
+stabilised_capacity : (both : Both) (outcome : Option Kept) → (stabilised both outcome).own.capacity ≡ both.own.capacity
+stabilised_capacity both None = stabilised_in_capacity both (stabilisation_of both.shared both.own.who)
+stabilised_capacity both (Some outcome) = refl
+
+stabilised_by_capacity : (shared : Shared) (own : Own) (fallen : Option Fallen) → (stabilised_by shared own fallen).own.capacity ≡ own.capacity
+stabilised_by_capacity shared own None = stabilised_capacity (opened shared own) (kept_at shared own.who) ∙ opened_capacity shared own
+stabilised_by_capacity shared own (Some fallen) = refl
+
+pub stabilise_capacity : (shared : Shared) (own : Own) → (stabilise shared own).own.capacity ≡ own.capacity
+stabilise_capacity shared own = stabilised_by_capacity shared own (fallen_at shared own.who)
 
 served_capacity : (shared : Shared) (own : Own) (fallen : Option Fallen) → (served_by shared own fallen).own.capacity ≡ own.capacity
 served_capacity shared own None = opened_capacity shared own
@@ -103,6 +126,14 @@ page_wanted hub own wants calls page marks after own_after sound load =
     let found = found_among (is_unframed hub) (λ want. not (allows (opened (stands_for hub sound.stands).shared (own_of own)).own.held want.page want.right)) wants first.0 first.1.0 in
     record { want = first.0; among = found.0; is = first.1.1; unframed = found.1 }
 
+-- and it is not modified
+unframed_none : (frame : Option (List ℕ)) → is_none frame ≡ true → frame ≡ None
+unframed_none None is = refl
+unframed_none (Some words) is = cc
+
+pub clean_wanted : (hub : HubView) → IsSound hub → (want : Want) → is_unframed hub want ≡ true → is_modified hub.trail want.page ≡ false
+clean_wanted hub sound want unframed = clean_unframed hub sound want.page (unframed_none (frame_in hub.pages want.page) unframed)
+
 -- the hub and the cache where the load failed
 pub load_fails : (hub middle : HubView) (own : cache.Own) (wants : List Want) (calls page marks : ℕ) (after : HubView) (own_after : cache.Own) (behind : HubView)
     → OnlyLoads hub middle → OnlyLoads hub behind → IsLoad middle own wants calls page marks after own_after → LoadFails hub own wants calls behind own_after
@@ -122,6 +153,7 @@ pub leaves_loaded : (who : ℕ) (tells : Bool) (image : List (List ℕ)) (hub : 
 leaves_loaded who tells image hub own after loads sound frames = record {
   sound = sound;
   others = λ other away. kept_loaded other hub after loads;
+  still = still_loaded hub after loads;
   frames = λ told base stored right words. frames told base stored right;
 }
 
@@ -173,6 +205,7 @@ pub record IsTurnBehind (who : ℕ) (middle : HubView) (own : cache.Own) (after 
   pub client : own_after.client ≡ who
   pub owned : Owns after own_after
   pub others : (other : ℕ) → other ≢ who → KeepsClient other middle after
+  pub still : CommitsNothing middle after
   pub sound : IsSound after
   pub frames : (base : List (List ℕ)) → FramesAreRight base middle → CacheIsRight base middle own → FramesAreRight base after
   pub words : (base : List (List ℕ)) → FramesAreRight base middle → CacheIsRight base middle own → CacheIsRight base after own_after
@@ -182,6 +215,7 @@ pub turn_leaves : (who : ℕ) (tells : Bool) (image : List (List ℕ)) (hub midd
 turn_leaves who tells image hub middle own after own_after behind turn = record {
   sound = turn.sound;
   others = λ other away. kept_again other hub middle after (kept_loaded other hub middle behind.loads) (turn.others other away);
+  still = nothing_again hub middle after (still_loaded hub middle behind.loads) turn.still;
   frames = λ told base stored frames words. turn.frames base (behind.frames told base stored frames) (right_loaded base hub middle own behind.loads words);
 }
 

@@ -1,18 +1,18 @@
-use Rattle.std.proofs.Common.{◌≡◌, ◌<◌, ◌≤◌, ℕ, List, [], false, length, replicate, refl, sym, ap, ◌∙◌, subst, ⊎_elim, arith}
+use Rattle.std.proofs.Common.{◌≡◌, ◌<◌, ◌≤◌, ℕ, List, [], false, length, replicate, refl, sym, ap, ◌∙◌, subst, ⊎_elim, arith, true≢false}
 use Rattle.std.specs.Prelude.{Option, None, is_some, slice_index_or}
 use Rattle.std.proofs.lemmas.Bool.{cases_lt}
 use Rattle.std.proofs.lemmas.List.{get_or-replicate, get_or_past, length-replicate}
 use Rattle.std.proofs.lemmas.List.FromFn.{get_or-map-range_with_len}
 use Rattle.std.proofs.lemmas.Option.{none-some}
-use Rattle.casper_trail.specs.Value.{value_of}
-use Rattle.casper_trail.specs.Parts.{stable_entries}
-use Rattle.casper_disk.specs.Vault.{page_at}
+use Rattle.casper_trail.specs.Value.{IsArray}
 use Rattle.casper_cache.specs.Own as cache
 use Rattle.casper_model.specs.Own as machine
 use Rattle.casper_model.specs.Shared.{new_shared}
 use Rattle.casper_model.specs.State.{start, own_at}
 use Rattle.casper_model.proofs.RunHistory.{start_history}
 use Rattle.casper_model.proofs.RoomRuns.{every_run_room}
+use Rattle.casper_laws.proofs.StepFrozen.{start_orderly}
+use Rattle.casper_laws.proofs.StepImage.{start_stored}
 use Rattle.casper_hub.specs.HubView.{is_live, page_count}
 use Rattle.casper_hub.specs.Shows.{Shows}
 use Rattle.casper_hub.specs.Sound.{IsSound as Whole}
@@ -25,7 +25,7 @@ use Rattle.casper_core.specs.Represents.{own_part, Represents}
 -- A core as its session begins.
 
 module _ {V : Type 0} (core : CoreView V) (whole : Whole core.hub) (empty : core.caches ≡ replicate 33 None) (absent : (who : ℕ) → is_live core.hub who ≡ false)
-    (size : core.size ≡ page_count core.hub) where
+    (size : core.size ≡ page_count core.hub) (finished : core.unfinished ≡ None) where
   none_at : (who : ℕ) → cache_at core who ≡ None
   none_at who =
       ap (λ caches. slice_index_or caches who None) empty
@@ -42,7 +42,9 @@ module _ {V : Type 0} (core : CoreView V) (whole : Whole core.hub) (empty : core
     least = least;
     most = most;
     size = size;
-    sure = sure;
+    written = λ one is. absurd (none-some one (sym finished ∙ is));
+    alone = λ one is. absurd (none-some one (sym finished ∙ is));
+    doubtful = λ doubted. absurd (true≢false (sym doubted ∙ ap is_some sure));
   }
 
   owns_new : (limit who : ℕ) → who < 33 → own_at (start core.told core.size limit core.capacity) who ≡ own_part core.capacity who (cache_at core who)
@@ -51,23 +53,22 @@ module _ {V : Type 0} (core : CoreView V) (whole : Whole core.hub) (empty : core
       ∙ ap (own_part core.capacity who) (sym (none_at who))
 
   pub shape_new : (limit : ℕ) → Shows (new_shared core.size limit) core.hub → RepresentsButWords (start core.told core.size limit core.capacity) core
-  shape_new limit shows = record { shared = shows; places = refl; owns = owns_new limit }
+  shape_new limit shows = record { shared = shows; places = refl; owns = owns_new limit; unfinished = sym finished }
 
-  pub stands_new : (limit : ℕ) → Shows (new_shared core.size limit) core.hub → ((base : List (List ℕ)) → FramesAreRight base core.hub) → core.hub.trail ≡ []
-      → ((page : ℕ) → page < core.size → length (page_at core.told.image page) ≡ 512) → Represents (start core.told core.size limit core.capacity) core
-  stands_new limit shows frames trail filled = record {
+  pub stands_new : (limit : ℕ) → Shows (new_shared core.size limit) core.hub → ((base : List (List ℕ)) → FramesAreRight base core.hub) → core.told.doubt ≡ None
+      → IsArray core.size core.told.image → Represents (start core.told core.size limit core.capacity) core
+  stands_new limit shows frames sure shape = record {
     parts = record {
       shared = shows;
       owns = owns_new limit;
-      finished = refl;
+      unfinished = sym finished;
       vault = refl;
+      pages = shape.count ∙ size;
       frames = frames core.told.image;
       words = λ who own found. absurd (none-some own (sym (none_at who) ∙ found));
-      stored = λ page below. record {
-        long = filled page (subst (λ count. page < count) (sym size) below);
-        each = λ word inside. ap (λ items. value_of core.told.image (stable_entries items) page word) (sym trail);
-      };
     };
     history = start_history core.told core.size limit core.capacity;
     room = every_run_room core.told core.size limit core.capacity [] tt;
+    orderly = start_orderly core.told core.size limit core.capacity sure;
+    image = start_stored core.told core.size limit core.capacity shape;
   }

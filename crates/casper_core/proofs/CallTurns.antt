@@ -23,7 +23,7 @@ use Rattle.casper_hub.specs.Words.{CacheIsRight}
 use Rattle.casper_laws.proofs.AnswerLaws.{acquired_has}
 use Rattle.casper_laws.proofs.AnswerLawsCalls.{can_with}
 use Rattle.casper_hub.proofs.StandsFor.{stands_for}
-use Rattle.casper_hub.proofs.Relying.{kept_itself}
+use Rattle.casper_hub.proofs.Relying.{kept_itself, nothing_itself}
 use Rattle.casper_core.specs.Acting.{outside_of, IsPart, IsTurnResult, Holds, KeepsHubRight}
 use Rattle.casper_core.specs.Loading.{LoadFails, Acquired}
 use Rattle.casper_core.specs.Shaped.{IsShape, read_with}
@@ -123,6 +123,7 @@ pub leaves_hit : (who : ℕ) (tells : Bool) (image : List (List ℕ)) (hub : Hub
 leaves_hit who tells image hub own sound = record {
   sound = sound;
   others = λ other away. kept_itself other hub;
+  still = nothing_itself hub;
   frames = λ told base stored frames words. frames;
 }
 

@@ -3,7 +3,6 @@ use Rattle.std.specs.Prelude.{Option, None, Some, IsTrue, is_some, Result, Ok, E
 use Rattle.std.proofs.lemmas.Option.{slice_get_read, get_or_from_slice_get}
 use Rattle.std.proofs.lemmas.List.{set-get_or}
 use Rattle.casper_words.specs.Crew.{IsClient}
-use Rattle.casper_trail.specs.Parts.{stable_entries}
 use Rattle.casper_space.specs.declared.answer.Answer.{Answer}
 use Rattle.casper_space.specs.declared.answer.Answer.TheVariants as answer
 use Rattle.casper_cache.specs.Own as cache
@@ -13,13 +12,12 @@ use Rattle.casper_model.specs.Shared.{is_live}
 use Rattle.casper_model.specs.Outside.{Outside, NothingFailed}
 use Rattle.casper_model.specs.Rights.{NamesClients}
 use Rattle.casper_model.specs.State.{State, own_at}
-use Rattle.casper_model.specs.Step.{step, read_turn, write_turn, acquire_turn, serve_turn, lose_turn}
+use Rattle.casper_model.specs.Step.{step, read_turn, write_turn, acquire_turn, serve_turn, stabilise_turn, lose_turn}
 use Rattle.casper_model.specs.Turn.{guarded, within, is_in_range, are_in_range}
 use Rattle.casper_model.specs.Vault.{VaultState}
-use Rattle.casper_model.proofs.StepAdditions.{step_adds}
 use Rattle.casper_hub.specs.HubView.{HubView}
 use Rattle.casper_hub.specs.Owned.{own_of}
-use Rattle.casper_core.specs.Acting.{outside_of, IsTurnResult, RefinesTurn, KeepsHubRight, Holds}
+use Rattle.casper_core.specs.Acting.{outside_of, outside_in, IsTurnResult, RefinesTurn, KeepsHubRight, Holds}
 use Rattle.casper_core.specs.ClientTurns.{IsTurnOf, client_turn}
 use Rattle.casper_core.specs.CoreView.{CoreView, cache_at}
 use Rattle.casper_core.specs.Loading.{OnlyLoads}
@@ -30,8 +28,7 @@ use Rattle.casper_core.specs.Represents.{own_part, HasPartsOf, Represents}
 use Rattle.casper_core.specs.Stepping.{Steps}
 use Rattle.casper_core.proofs.Loads.{shows_loaded}
 use Rattle.casper_core.proofs.MachineTurns.{same_gives, gives_by}
-use Rattle.casper_core.proofs.Losses.{lose_stays}
-use Rattle.casper_core.proofs.Places.{sound_placed, parts_placed, shape_placed, stable_stays}
+use Rattle.casper_core.proofs.Places.{sound_placed, parts_placed, shape_placed}
 use Rattle.casper_core.proofs.StepParts.{passed_by, refused_by, live_where, answered_same, made_same, shape_at, placed_again, right_again, client_answered}
 
 -- A turn of a client that keeps its cache, in a core.
@@ -64,7 +61,7 @@ names who (event.Write other page word value) is client = subst IsClient (sym is
 names who (event.Acquire other wants) is client = subst IsClient (sym is) client
 names who (event.Serve other) is client = subst IsClient (sym is) client
 names who (event.Hold other wants) is client = absurd is
-names who (event.Stabilise other) is client = absurd is
+names who (event.Stabilise other) is client = subst IsClient (sym is) client
 names who (event.WriteOut lead) is client = absurd is
 names who (event.Finish lead) is client = absurd is
 names who event.Settle is client = absurd is
@@ -72,29 +69,11 @@ names who (event.Depart other) is client = absurd is
 names who (event.Vanish other) is client = absurd is
 names who (event.Lose other) is client = subst IsClient (sym is) client
 
-pub stays_stable : (who : ℕ) (one : Event) → IsTurnOf who one → (outside : Outside) (state : State) → stable_entries (step state one outside).state.shared.trail ≡ stable_entries state.shared.trail
-stays_stable who (event.Join other) is outside state = absurd is
-stays_stable who (event.Read other page word) is outside state =
-    stable_stays (own_at state other).who (own_at state other).pending state.shared.trail (step state (event.Read other page word) outside).state.shared.trail (step_adds state (event.Read other page word) outside)
-stays_stable who (event.Write other page word value) is outside state =
-    stable_stays (own_at state other).who (own_at state other).pending state.shared.trail (step state (event.Write other page word value) outside).state.shared.trail
-    (step_adds state (event.Write other page word value) outside)
-stays_stable who (event.Acquire other wants) is outside state =
-    stable_stays (own_at state other).who (own_at state other).pending state.shared.trail (step state (event.Acquire other wants) outside).state.shared.trail (step_adds state (event.Acquire other wants) outside)
-stays_stable who (event.Serve other) is outside state =
-    stable_stays (own_at state other).who (own_at state other).pending state.shared.trail (step state (event.Serve other) outside).state.shared.trail (step_adds state (event.Serve other) outside)
-stays_stable who (event.Hold other wants) is outside state = absurd is
-stays_stable who (event.Stabilise other) is outside state = absurd is
-stays_stable who (event.WriteOut lead) is outside state = absurd is
-stays_stable who (event.Finish lead) is outside state = absurd is
-stays_stable who event.Settle is outside state = absurd is
-stays_stable who (event.Depart other) is outside state = absurd is
-stays_stable who (event.Vanish other) is outside state = absurd is
-stays_stable who (event.Lose other) is outside state = by (is_live state.shared other)
-  where
-    by : (live : Bool) → stable_entries (guarded live answer.Absent state (lose_turn other)).state.shared.trail ≡ stable_entries state.shared.trail
-    by true = lose_stays state.shared other
-    by false = refl
+-- what the outside did, as the answer to it tells
+pub outside_turn : (who : ℕ) (one : Event) → IsTurnOf who one → (said : Answer) → outside_in one said ≡ outside_of said
+outside_turn who (event.WriteOut lead) is said = absurd is
+outside_turn who event.Settle is said = absurd is
+outside_turn who other is said = refl
 
 -- of a live client
 pub is_turn : (who : ℕ) (one : Event) → IsTurnOf who one → (outside : Outside) (state : State) → is_live state.shared who ≡ true → step state one outside ≡ client_turn who one outside state
@@ -111,7 +90,8 @@ is_turn who (event.Acquire other wants) is outside state live =
 is_turn who (event.Serve other) is outside state live =
     ap (λ number. step state (event.Serve number) outside) is ∙ passed_by (is_live state.shared who) answer.Absent state (serve_turn who) live
 is_turn who (event.Hold other wants) is outside state live = absurd is
-is_turn who (event.Stabilise other) is outside state live = absurd is
+is_turn who (event.Stabilise other) is outside state live =
+    ap (λ number. step state (event.Stabilise number) outside) is ∙ passed_by (is_live state.shared who) answer.Absent state (stabilise_turn who) live
 is_turn who (event.WriteOut lead) is outside state live = absurd is
 is_turn who (event.Finish lead) is outside state live = absurd is
 is_turn who event.Settle is outside state live = absurd is
@@ -136,7 +116,8 @@ is_absent who (event.Acquire other wants) is outside state gone =
 is_absent who (event.Serve other) is outside state gone =
     ap (λ number. step state (event.Serve number) outside) is ∙ refused_by (is_live state.shared who) answer.Absent state (serve_turn who) gone
 is_absent who (event.Hold other wants) is outside state gone = absurd is
-is_absent who (event.Stabilise other) is outside state gone = absurd is
+is_absent who (event.Stabilise other) is outside state gone =
+    ap (λ number. step state (event.Stabilise number) outside) is ∙ refused_by (is_live state.shared who) answer.Absent state (stabilise_turn who) gone
 is_absent who (event.WriteOut lead) is outside state gone = absurd is
 is_absent who (event.Finish lead) is outside state gone = absurd is
 is_absent who event.Settle is outside state gone = absurd is
@@ -155,7 +136,7 @@ is_turn_with who (event.Write other page word value) is said state live = is_tur
 is_turn_with who (event.Acquire other wants) is said state live = is_turn who (event.Acquire other wants) is (outside_of said) state live
 is_turn_with who (event.Serve other) is said state live = is_turn who (event.Serve other) is (outside_of said) state live
 is_turn_with who (event.Hold other wants) is said state live = absurd is
-is_turn_with who (event.Stabilise other) is said state live = absurd is
+is_turn_with who (event.Stabilise other) is said state live = is_turn who (event.Stabilise other) is (outside_of said) state live
 is_turn_with who (event.WriteOut lead) is said state live = absurd is
 is_turn_with who (event.Finish lead) is said state live = absurd is
 is_turn_with who event.Settle is said state live = absurd is
@@ -173,7 +154,7 @@ is_absent_with who (event.Write other page word value) is said state gone = is_a
 is_absent_with who (event.Acquire other wants) is said state gone = is_absent who (event.Acquire other wants) is (outside_of said) state gone
 is_absent_with who (event.Serve other) is said state gone = is_absent who (event.Serve other) is (outside_of said) state gone
 is_absent_with who (event.Hold other wants) is said state gone = absurd is
-is_absent_with who (event.Stabilise other) is said state gone = absurd is
+is_absent_with who (event.Stabilise other) is said state gone = is_absent who (event.Stabilise other) is (outside_of said) state gone
 is_absent_with who (event.WriteOut lead) is said state gone = absurd is
 is_absent_with who (event.Finish lead) is said state gone = absurd is
 is_absent_with who event.Settle is said state gone = absurd is
@@ -187,7 +168,7 @@ module _ {V : Type 0} (core : CoreView V) (at who : ℕ) (same : at ≡ who) (cl
       → Steps one answer.Absent core (record core { caches = caches })
   absent_turn one caches is none back state stands =
       answered_same state one answer.Absent core (record core { caches = caches }) (names who one is client) stands
-      (is_absent who one is NothingFailed state (live_where core who false state sound stands.parts.shared (ap is_some none)))
+      (is_absent who one is (outside_in one answer.Absent) state (live_where core who false state sound stands.parts.shared (ap is_some none)))
       (subst (λ list. HasPartsOf state (record core { caches = list })) (sym back) stands.parts)
 
   pub absent_made : (one : Event) (caches : List (Option cache.Own)) → IsTurnOf who one → cache_at core who ≡ None → caches ≡ core.caches
@@ -200,18 +181,19 @@ module _ {V : Type 0} (core : CoreView V) (at who : ℕ) (same : at ≡ who) (cl
   -- a turn of a live client, in which the cache stays its own
   module _ (own : cache.Own) (found : cache_at core who ≡ Some own) (tells : Bool) (after : HubView) (own_after : cache.Own) (calls : ℕ) (vault : V) (size : ℕ) (told : VaultState)
       (leaves : KeepsHubRight who tells core.told.image core.hub own after) (holds : Holds who tells core.told.image core.hub own after own_after) where
-    pub sound_turn : size ≡ core.size → told.doubt ≡ None → IsSound (placed core at after (Some own_after) calls vault size told)
-    sound_turn same_size sure =
+    pub sound_turn : size ≡ core.size → is_some told.doubt ≡ is_some core.told.doubt → IsSound (placed core at after (Some own_after) calls vault size told)
+    sound_turn same_size same_doubt =
         subst (λ number. IsSound (placed core number after (Some own_after) calls vault size told)) (sym same)
-        (sound_placed core who after (Some own_after) calls vault size told sound client (placed_again core who own tells core.told.image after own_after sound found leaves holds) same_size sure)
+        (sound_placed core who after (Some own_after) calls vault size told sound client (placed_again core who own tells core.told.image after own_after sound found leaves holds) same_size same_doubt)
 
     pub turn_steps : (one : Event) (said : Answer) → IsTurnOf who one → IsTrue tells → told ≡ core.told → RefinesTurn who tells core.told.image (client_turn who one) core.hub own said after own_after
         → Steps one said core (placed core at after (Some own_after) calls vault size told)
     turn_steps one said is is_told same_told does =
         subst (λ number. Steps one said core (placed core number after (Some own_after) calls vault size told)) (sym same)
         (client_answered core who own one said (client_turn who one) tells after own_after calls vault size told is_told sound client found (names who one is client)
-        (λ state. stays_stable who one is (outside_of said) state)
-        (λ state stands. is_turn who one is (outside_of said) state (live_where core who true state sound stands.parts.shared (ap is_some found)))
+        (λ state stands.
+        ap (step state one) (outside_turn who one is said)
+        ∙ is_turn who one is (outside_of said) state (live_where core who true state sound stands.parts.shared (ap is_some found)))
         does leaves holds same_told)
 
     pub turn_made : (one : Event) (said : Answer) → IsTurnOf who one → RefinesTurnButValues who (client_turn_with who one) core.hub own said after own_after
@@ -238,9 +220,11 @@ module _ {V : Type 0} (core : CoreView V) (at who : ℕ) (same : at ≡ who) (cl
         (record {
           parts = parts_placed core who after (Some own_after) calls vault size told state (record { answer = answer.Absent; state = state }) answer.Absent sound client
               (placed_again core who own tells core.told.image after own_after sound found leaves holds) stands.parts gives
-              (right_again core who own tells state after own_after is_told found stands.parts leaves holds) refl same_told;
+              (right_again core who own tells state after own_after is_told found stands leaves holds) same_told;
           history = stands.history;
           room = stands.room;
+          orderly = stands.orderly;
+          image = stands.image;
         })
 
 pub both_errs : {T E : Type 0} (result : Result T E) (P Q : Type 0) → OnErr result P → OnErr result Q → OnErr result (P × Q)

@@ -1,6 +1,7 @@
-use Rattle.std.proofs.Common.{◌≡◌, ◌==◌, ◌&&◌, ℕ, List, [], ◌∷◌, Bool, true, false, cond, refl, ap, ap₂, ◌∙◌, subst}
-use Rattle.std.specs.Prelude.{Option, None, Some, IsFalse, MatchOption, nat_lt, unwrap_or, is_some}
+use Rattle.std.proofs.Common.{◌≡◌, ◌==◌, ◌&&◌, ℕ, List, [], ◌∷◌, Bool, true, false, cond, not, true≢false, refl, sym, ap, ap₂, ◌∙◌, subst}
+use Rattle.std.specs.Prelude.{Option, None, Some, IsTrue, IsFalse, MatchOption, nat_lt, unwrap_or, is_some}
 use Rattle.std.specs.List.{list_all}
+use Rattle.std.proofs.lemmas.Option.{none-some}
 use Rattle.casper_words.specs.declared.page.Right.TheVariants as may
 use Rattle.casper_words.specs.declared.page.Want.{Want}
 use Rattle.casper_trail.specs.TrailView.{entry_count}
@@ -12,6 +13,11 @@ use Rattle.casper_model.specs.declared.reply.Reply.{Reply}
 use Rattle.casper_model.specs.declared.reply.Reply.TheVariants as reply
 use Rattle.casper_model.specs.declared.reply.Loss.{Loss}
 use Rattle.casper_model.specs.declared.reply.Loss.TheVariants as loss
+use Rattle.casper_model.specs.declared.outcome.Outcome.{Outcome}
+use Rattle.casper_model.specs.declared.outcome.Outcome.TheVariants as outcome
+use Rattle.casper_model.specs.declared.reply.StabReply.{StabReply}
+use Rattle.casper_model.specs.declared.reply.StabReply.TheVariants as stab
+use Rattle.casper_model.specs.Stabilise.{stabilise}
 use Rattle.casper_model.specs.declared.reply.Served.{Served}
 use Rattle.casper_model.specs.declared.reply.Served.TheVariants as served
 use Rattle.casper_model.specs.declared.reply.JoinRefusal.{JoinRefusal}
@@ -19,29 +25,36 @@ use Rattle.casper_model.specs.declared.reply.JoinRefusal.TheVariants as refusal
 use Rattle.casper_model.specs.Both.{Turned}
 use Rattle.casper_model.specs.Own as machine
 use Rattle.casper_model.specs.Acquire.{acquire}
-use Rattle.casper_model.specs.Answers.{of_join, of_reply, of_served, of_depart, of_vanish, of_lose}
+use Rattle.casper_model.specs.Answers.{of_join, of_reply, of_served, of_stabilise, of_failure, of_write_out, of_finish, of_depart, of_vanish, of_lose}
 use Rattle.casper_model.specs.CallStep.{acquire_step, unless_load_failed, hit_turn, hit_behind, call_by, call_step, is_granted}
 use Rattle.casper_model.specs.Client.{Client}
 use Rattle.casper_model.specs.Hits.{hit_read, hit_write}
 use Rattle.casper_model.specs.Join.{join, joined_by}
 use Rattle.casper_model.specs.Leave.{serve, depart, vanish}
 use Rattle.casper_model.specs.Loss.{lose}
-use Rattle.casper_model.specs.Outside.{Outside, NothingFailed}
+use Rattle.casper_model.specs.declared.outcome.Finished.{Finished}
+use Rattle.casper_model.specs.declared.outcome.Finished.TheVariants as finished_as
+use Rattle.casper_model.specs.Finish.{finish, settled, doubtful_of}
+use Rattle.casper_model.specs.Outside.{Outside, NothingFailed, is_settle_failed}
+use Rattle.casper_model.specs.Stabilisation.{Stabilisation}
+use Rattle.casper_model.specs.Vault.{commit}
+use Rattle.casper_model.specs.WriteOutStep.{job_of, busy_lead, changes_of, finish_step, finish_turn, settle_step, settle_turn, of_settled}
 use Rattle.casper_model.specs.Room.{free_room}
 use Rattle.casper_model.specs.Shared.{Shared, client_at, is_live}
-use Rattle.casper_model.specs.State.{State, own_at, after_turn}
-use Rattle.casper_model.specs.Step.{acquire_turn, serve_turn, depart_turn, vanish_turn, lose_turn, write_turn}
+use Rattle.casper_model.specs.Run.{is_doubt}
+use Rattle.casper_model.specs.State.{State, Unfinished, own_at, after_turn}
+use Rattle.casper_model.specs.Step.{acquire_turn, serve_turn, stabilise_turn, depart_turn, vanish_turn, lose_turn, write_turn}
 use Rattle.casper_model.specs.Turn.{Turn, guarded, within, is_in_range, are_in_range}
 use Rattle.casper_model.specs.View.{value_seen}
 use Rattle.casper_hub.specs.HubView as hub
 use Rattle.casper_hub.specs.HubView.{HubView}
 use Rattle.casper_hub.proofs.Showing.{free_shown, liveness_shown}
-use Rattle.casper_core.specs.Acting.{outside_of}
+use Rattle.casper_core.specs.Acting.{outside_of, outside_in}
 use Rattle.casper_core.specs.CoreView.{CoreView}
-use Rattle.casper_core.specs.Decided.{decided_of, is_of_no_turn, AnswersByTheHub}
-use Rattle.casper_core.specs.Shaped.{RepresentsButWords, StepsInShape, read_with, step_with}
+use Rattle.casper_core.specs.Decided.{decided_of, decided, is_before_turn, is_of_no_turn, IsOfTurn, AnswersByTheHub}
+use Rattle.casper_core.specs.Shaped.{RepresentsButWords, StepsInShape, outcome_told, read_with, written_with, written_unless, write_out_with, step_with}
 use Rattle.casper_core.specs.Sound.{IsSound}
-use Rattle.casper_core.specs.Stepping.{IsBuilt}
+use Rattle.casper_core.specs.Stepping.{IsBuilt, IfWrittenOut, is_fault}
 use Rattle.casper_core.proofs.ShapedRuns.{some_state}
 use Rattle.casper_core.proofs.StepParts.{number_at}
 
@@ -61,6 +74,22 @@ of_acquire (reply.Load page marks) = refl
 of_serve : (one : Served) → is_of_no_turn (of_served one) ≡ false
 of_serve served.Ok = refl
 of_serve (served.RolledBack mark recorded unrecorded) = refl
+
+of_failed : (cause : Outcome) → is_of_no_turn (of_failure cause) ≡ false
+of_failed (outcome.Ok version) = refl
+of_failed (outcome.Full need free) = refl
+of_failed outcome.Worn = refl
+of_failed outcome.Disk = refl
+of_failed outcome.Doubt = refl
+
+of_stabilised : (one : StabReply) → is_of_no_turn (of_stabilise one) ≡ false
+of_stabilised (stab.Gathering awaited) = refl
+of_stabilised (stab.Sealed pages) = refl
+of_stabilised (stab.Doing lead) = refl
+of_stabilised (stab.Doubtful lead) = refl
+of_stabilised (stab.Committed mark) = refl
+of_stabilised (stab.Failed cause) = of_failed cause
+of_stabilised (stab.RolledBack mark recorded unrecorded) = refl
 
 of_leave : (one : Served) → is_of_no_turn (of_depart one) ≡ false
 of_leave served.Ok = refl
@@ -117,6 +146,62 @@ read_turned who page word other state =
 write_turned : (who page word value : ℕ) (outside : Outside) (state : State) → is_of_no_turn (write_turn who page word value outside state).answer ≡ false
 write_turned who page word value outside state =
     call_turned (λ after. answer.Ok) (λ after. hit_write (own_at after who) page word value) (λ after. refl) state who (record { page = page; right = may.Write }) outside
+
+-- Nor does a write-out, a finish or a settle.
+
+of_outcome : (how : Outcome) → is_before_turn (of_write_out how) ≡ false
+of_outcome (outcome.Ok version) = refl
+of_outcome (outcome.Full need free) = refl
+of_outcome outcome.Worn = refl
+of_outcome outcome.Disk = refl
+of_outcome outcome.Doubt = refl
+
+told_outcome : (said : Answer) (how : Outcome) → outcome_told said ≡ Some how → is_before_turn said ≡ false
+told_outcome (answer.Written version) how is = refl
+told_outcome (answer.Full need free) how is = refl
+told_outcome answer.Worn how is = refl
+told_outcome answer.Disk how is = refl
+told_outcome answer.Doubt how is = refl
+told_outcome other how is = absurd (none-some how is)
+
+wrote : (state : State) (said : Answer) (job : Option Stabilisation) → is_before_turn (write_out_with state said job).answer ≡ false
+wrote state said None = refl
+wrote state said (Some one) = by (busy_lead state)
+  where
+    told : (how : Option Outcome) → outcome_told said ≡ how → is_before_turn (written_with state said one how).answer ≡ false
+    told None is = of_outcome (commit state.vault (changes_of state one) NothingFailed).outcome
+    told (Some how) is = told_outcome said how is
+
+    by : (busy : Option ℕ) → is_before_turn (written_unless state said one busy).answer ≡ false
+    by None = told (outcome_told said) refl
+    by (Some busy) = refl
+
+of_finished : (done : Option Finished) → is_of_no_turn (of_finish done) ≡ false
+of_finished None = refl
+of_finished (Some (finished_as.Committed mark)) = refl
+of_finished (Some (finished_as.Failed cause)) = of_failed cause
+of_finished (Some (finished_as.Undone mark)) = refl
+of_finished (Some finished_as.Doubt) = refl
+
+finished : (state : State) (lead : ℕ) (unfinished : Option Unfinished) → is_of_no_turn (finish_step state lead unfinished).answer ≡ false
+finished state lead None = refl
+finished state lead (Some one) = by (one.lead == lead)
+  where
+    by : (same : Bool) → is_of_no_turn (guarded same answer.NoJob state (finish_turn lead one.outcome)).answer ≡ false
+    by true = of_finished (finish state.shared lead one.outcome).reply
+    by false = refl
+
+of_mark : (mark : Option ℕ) → is_of_no_turn (of_settled mark) ≡ false
+of_mark None = refl
+of_mark (Some place) = refl
+
+settled_so : (state : State) (outside : Outside) (found : Option Stabilisation) → is_of_no_turn (settle_step state outside found).answer ≡ false
+settled_so state outside None = refl
+settled_so state outside (Some one) = by (not (is_settle_failed outside))
+  where
+    by : (passed : Bool) → is_of_no_turn (guarded passed answer.Disk state settle_turn).answer ≡ false
+    by true = of_mark (settled state.shared).reply
+    by false = refl
 
 -- what is decided of a client
 decided_within : (inside : Bool) (state : State) (said : Answer) (turn : State → Turn) → is_of_no_turn (turn state).answer ≡ false
@@ -183,10 +268,12 @@ module _ {V : Type 0} (core : CoreView V) (sound : IsSound core) (state : State)
       decided_where (is_live state.shared who) (hub.is_live core.hub who) true true said (live_here who) refl
       (decided_by (is_live state.shared who) (λ one. true) state said (serve_turn who) (of_serve (serve state.shared (own_at state who)).reply) is)
   by_event (event.Hold who wants) said built is = absurd built
-  by_event (event.Stabilise who) said built is = absurd built
-  by_event (event.WriteOut lead) said built is = absurd built
-  by_event (event.Finish lead) said built is = absurd built
-  by_event event.Settle said built is = absurd built
+  by_event (event.Stabilise who) said built is =
+      decided_where (is_live state.shared who) (hub.is_live core.hub who) true true said (live_here who) refl
+      (decided_by (is_live state.shared who) (λ one. true) state said (stabilise_turn who) (of_stabilised (stabilise state.shared (own_at state who)).reply) is)
+  by_event (event.WriteOut lead) said built is = ap is_before_turn is ∙ wrote state said (job_of state lead)
+  by_event (event.Finish lead) said built is = ap is_of_no_turn is ∙ finished state lead state.unfinished
+  by_event event.Settle said built is = ap is_of_no_turn is ∙ settled_so state (outside_in event.Settle said) (doubtful_of state.shared)
   by_event (event.Depart who) said built is =
       decided_where (is_live state.shared who) (hub.is_live core.hub who) true true said (live_here who) refl
       (decided_by (is_live state.shared who) (λ one. true) state said (depart_turn who) (of_leave (depart state.shared (own_at state who)).reply) is)
@@ -200,3 +287,54 @@ module _ {V : Type 0} (core : CoreView V) (sound : IsSound core) (state : State)
 pub decides : {V : Type 0} (core after : CoreView V) (one : Event) (said : Answer) → IsSound core → IsBuilt one → StepsInShape one said core after → AnswersByTheHub core.hub one said
 decides core after one said sound built steps =
     let some = some_state core sound in by_event core sound some.0 some.1 one said built (steps some.0 some.1).answers
+
+-- Only a write-out is answered with a doubt.
+
+plain_no_doubt : (said : Answer) → is_of_no_turn said ≡ false → is_doubt said ≡ false
+plain_no_doubt answer.Doubt is = cc
+plain_no_doubt other is = refl
+
+decided_no_doubt : (live within : Bool) (said : Answer) → MatchOption (decided_of live within) (IsFalse (is_of_no_turn said)) (λ answer. said ≡ answer) → is_doubt said ≡ false
+decided_no_doubt true true said is = plain_no_doubt said is
+decided_no_doubt true false said is = ap is_doubt is
+decided_no_doubt false within said is = ap is_doubt is
+
+joined_no_doubt : (live none : Bool) (entries : ℕ) → is_doubt (cond live answer.Busy (cond none (answer.TrailFull entries) answer.Joined)) ≡ false
+joined_no_doubt true none entries = refl
+joined_no_doubt false true entries = refl
+joined_no_doubt false false entries = refl
+
+-- an answer that tells of a fault
+fault_is : (said : Answer) → IsTrue (is_fault said) → is_doubt said ≡ false → said ≡ answer.Disk
+fault_is answer.Disk is quiet = refl
+fault_is answer.Doubt is quiet = cc
+fault_is other is quiet = absurd (true≢false (sym is))
+
+-- where a load or a settle that failed, and a write-out in doubt, raised the count of faults, each answer that tells of a fault did
+by_fault : (said : Answer) → IsTrue (is_fault said) → {P : Type 0} → (said ≡ answer.Disk → P) → (said ≡ answer.Doubt → P) → P
+by_fault answer.Disk is failed doubted = failed refl
+by_fault answer.Doubt is failed doubted = doubted refl
+by_fault other is failed doubted = absurd (true≢false (sym is))
+
+pub faulted : {V : Type 0} (core after : CoreView V) (one : Event) (said : Answer) (P : Type 0) → IsSound core → IsBuilt one → StepsInShape one said core after
+    → (said ≡ answer.Disk → P) → IfWrittenOut one (said ≡ answer.Doubt → P) → IsTrue (is_fault said) → P
+faulted core after one said P sound built steps failed doubted is = by one (decides core after one said sound built steps) doubted
+  where
+    quiet : is_doubt said ≡ false → P
+    quiet none = failed (fault_is said is none)
+
+    by : (other : Event) → AnswersByTheHub core.hub other said → IfWrittenOut other (said ≡ answer.Doubt → P) → P
+    by (event.WriteOut lead) decided doubted = by_fault said is failed doubted
+    by (event.Join who) decided doubted = quiet (ap is_doubt decided ∙ joined_no_doubt (hub.is_live core.hub who) (hub.free_in core.hub == 0) (entry_count core.hub.trail))
+    by (event.Read who page word) decided doubted =
+        quiet (decided_no_doubt (hub.is_live core.hub who) (nat_lt page (hub.page_count core.hub) && nat_lt word 512) said decided)
+    by (event.Write who page word value) decided doubted =
+        quiet (decided_no_doubt (hub.is_live core.hub who) (nat_lt page (hub.page_count core.hub) && nat_lt word 512) said decided)
+    by (event.Acquire who wants) decided doubted =
+        quiet (decided_no_doubt (hub.is_live core.hub who) (list_all (λ want. nat_lt want.page (hub.page_count core.hub)) wants) said decided)
+    by (event.Serve who) decided doubted = quiet (decided_no_doubt (hub.is_live core.hub who) true said decided)
+    by (event.Stabilise who) decided doubted = quiet (decided_no_doubt (hub.is_live core.hub who) true said decided)
+    by (event.Depart who) decided doubted = quiet (decided_no_doubt (hub.is_live core.hub who) true said decided)
+    by (event.Vanish who) decided doubted = quiet (decided_no_doubt (hub.is_live core.hub who) true said decided)
+    by (event.Lose who) decided doubted = quiet (decided_no_doubt (hub.is_live core.hub who) true said decided)
+    by other decided doubted = quiet (plain_no_doubt said decided)

@@ -4,7 +4,6 @@ use Rattle.std.proofs.lemmas.Option.{none-some}
 use Rattle.std.proofs.lemmas.List.{set-get_or}
 use Rattle.casper_words.specs.Crew.{IsClient}
 use Rattle.casper_trail.specs.TrailView.{entry_count}
-use Rattle.casper_trail.specs.Parts.{stable_entries}
 use Rattle.casper_space.specs.declared.answer.Answer.TheVariants as answer
 use Rattle.casper_cache.specs.Own as cache
 use Rattle.casper_model.specs.declared.event.Event.TheVariants as event
@@ -19,14 +18,13 @@ use Rattle.casper_model.specs.Join.{join, joined_by}
 use Rattle.casper_model.specs.Answers.{of_join}
 use Rattle.casper_model.specs.State.{State, own_at, after_turn}
 use Rattle.casper_model.specs.Step.{step}
-use Rattle.casper_model.proofs.StepAdditions.{step_adds}
 use Rattle.casper_hub.specs.HubView.{HubView, is_live, cap_in}
 use Rattle.casper_hub.specs.Owned.{Owns, own_of, new_cache}
 use Rattle.casper_hub.specs.Sound as hub
-use Rattle.casper_hub.specs.GoesOn.{KeepsClient}
+use Rattle.casper_hub.specs.GoesOn.{KeepsClient, CommitsNothing}
 use Rattle.casper_hub.specs.Turns.{IsJoin, Joins}
 use Rattle.casper_hub.specs.Words.{FramesAreRight, CacheIsRight}
-use Rattle.casper_hub.proofs.Relying.{kept_itself}
+use Rattle.casper_hub.proofs.Relying.{kept_itself, nothing_itself}
 use Rattle.casper_core.specs.Acting.{outside_of, IsTurnResult}
 use Rattle.casper_core.specs.CoreView.{CoreView, cache_at}
 use Rattle.casper_core.specs.Placing.{placed, IsPlaced}
@@ -68,6 +66,7 @@ module _ {V : Type 0} (core : CoreView V) (who : ℕ) (client : IsClient who) (s
   placed_same = record {
     sound = sound.hub;
     others = λ other away. kept_itself other core.hub;
+    still = nothing_itself core.hub;
     live = sound.live who;
     client = λ own is. (sound.kept who own is).client;
     same_capacity = λ own is. (sound.kept who own is).capacity;
@@ -96,7 +95,7 @@ module _ {V : Type 0} (core : CoreView V) (who : ℕ) (client : IsClient who) (s
       let gives = refused_gives why state here (shape_of state core stands) in
       let parts = parts_placed core who core.hub (cache_at core who) core.calls core.vault core.size core.told state (step state (event.Join who) (outside_of said)) said sound client placed_same stands.parts
       gives (record { frames = stands.parts.frames; words = λ own found. stands.parts.words who own found })
-      (ap stable_entries (step_adds state (event.Join who) (outside_of said))) refl in
+      refl in
       answered_by state (event.Join who) said core (record core { hub = after }) client stands gives.answers
       (subst (λ one. HasPartsOf (step state (event.Join who) (outside_of said)).state (record core { hub = one })) (sym same)
       (subst (λ caches. HasPartsOf (step state (event.Join who) (outside_of said)).state (record core { caches = caches })) (set-get_or core.caches who None) parts))
@@ -116,7 +115,7 @@ module _ {V : Type 0} (core : CoreView V) (who : ℕ) (client : IsClient who) (s
   -- the client has joined, with a new cache
   module _ (after : HubView) (own : cache.Own) (own_is : own ≡ record { client = who; capacity = core.capacity; held = []; pending = []; cap = cap_in after who })
       (own_sound : cache.IsSound own) (done : Unit {0}) (joins : IsJoin who (Ok done) core.hub after) (live : is_live after who ≡ true) (owned : (capacity : ℕ) → 8 ≤ capacity → capacity ≤ 1024 → Owns after (new_cache who capacity (cap_in after who)))
-      (others : (other : ℕ) → other ≢ who → KeepsClient other core.hub after) (hub_sound : hub.IsSound after) where
+      (others : (other : ℕ) → other ≢ who → KeepsClient other core.hub after) (still : CommitsNothing core.hub after) (hub_sound : hub.IsSound after) where
     owns_new : Owns after own
     owns_new = subst (Owns after) (sym own_is) (owned core.capacity sound.least sound.most)
 
@@ -127,6 +126,7 @@ module _ {V : Type 0} (core : CoreView V) (who : ℕ) (client : IsClient who) (s
     placed_new = record {
       sound = hub_sound;
       others = others;
+      still = still;
       live = sym live;
       client = λ one is. subst (λ (o : cache.Own). o.client ≡ who) (is_it one is) (ap (λ (o : cache.Own). o.client) own_is);
       same_capacity = λ one is. subst (λ (o : cache.Own). o.capacity ≡ core.capacity) (is_it one is) (ap (λ (o : cache.Own). o.capacity) own_is);
@@ -136,7 +136,7 @@ module _ {V : Type 0} (core : CoreView V) (who : ℕ) (client : IsClient who) (s
     pub sound_join : (at : ℕ) → at ≡ who → IsSound (placed core at after (Some own) core.calls core.vault core.size core.told)
     sound_join at same =
         subst (λ number. IsSound (placed core number after (Some own) core.calls core.vault core.size core.told)) (sym same)
-        (sound_placed core who after (Some own) core.calls core.vault core.size core.told sound client placed_new refl sound.sure)
+        (sound_placed core who after (Some own) core.calls core.vault core.size core.told sound client placed_new refl refl)
 
     joined_gives : (state : State) → RepresentsButWords state core → IsTurnResult who state (step state (event.Join who) (outside_of answer.Joined)) answer.Joined after (own_of own)
     joined_gives state shape =
@@ -176,4 +176,4 @@ module _ {V : Type 0} (core : CoreView V) (who : ℕ) (client : IsClient who) (s
           frames = frames state.base stands.parts.frames;
           words = λ one is. subst (CacheIsRight state.base after) (sym own_is ∙ is_it one is) (λ page. tt);
         })
-        (ap stable_entries (step_adds state (event.Join who) (outside_of answer.Joined))) refl))
+        refl))

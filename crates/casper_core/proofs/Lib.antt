@@ -1,10 +1,13 @@
 pub mod Acquires
 pub mod Begins
 pub mod CallTurns
+pub mod Changes
+pub mod Commits
 pub mod CoreTurns
 pub mod DecidedTurns
 pub mod Departs
 pub mod HitTurns
+pub mod JobChanges
 pub mod Joins
 pub mod Leaves
 pub mod Loads
@@ -14,5 +17,10 @@ pub mod Places
 pub mod ReplayRuns
 pub mod ShapedRuns
 pub mod StepParts
+pub mod StillLeads
+pub mod Stored
 pub mod MachineTurns
 pub mod VaultReads
+pub mod WriteOuts
+pub mod Finishes
+pub mod Ended

@@ -10,7 +10,10 @@ use Rattle.casper_hub.specs.HubView.{HubView, is_live, frame_in, page_count}
 use Rattle.casper_hub.specs.Owned.{own_of, Owns}
 use Rattle.casper_hub.specs.Shows.{Shows}
 use Rattle.casper_hub.specs.Words.{CacheIsRight}
-use Rattle.casper_hub.specs.GoesOn.{KeepsClient}
+use Rattle.casper_turns.specs.CommitsNothing as turns
+use Rattle.casper_turns.proofs.Compose.{still_itself}
+use Rattle.casper_hub.specs.GoesOn.{KeepsClient, CommitsNothing}
+use Rattle.casper_hub.proofs.Relying.{goes_same}
 use Rattle.casper_hub.specs.Turns.{IsTurn}
 use Rattle.casper_hub.proofs.StandsFor.{good_with, good_with_each}
 use Rattle.casper_hub.proofs.Supplied.{with_frames, shows_beside_frames, kept_beside_frames}
@@ -52,6 +55,9 @@ owns_loaded hub after own loads owns = record {
 
 pub kept_loaded : (who : ℕ) (hub after : HubView) → OnlyLoads hub after → KeepsClient who hub after
 kept_loaded who hub after loads = kept_beside_frames who hub after loads.same
+
+pub still_loaded : (hub after : HubView) → OnlyLoads hub after → CommitsNothing hub after
+still_loaded hub after loads = goes_same turns.CommitsNothing still_itself hub after (λ shared shows. shows_loaded shared hub after loads shows)
 
 pub right_loaded : (base : List (List ℕ)) (hub after : HubView) (own : cache.Own) → OnlyLoads hub after → CacheIsRight base hub own → CacheIsRight base after own
 right_loaded base hub after own loads right = behind_loads (λ one. CacheIsRight base one own) hub after loads (λ frames. right)

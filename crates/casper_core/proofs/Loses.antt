@@ -7,7 +7,7 @@ use Rattle.casper_model.specs.Answers.{of_lose}
 use Rattle.casper_model.specs.Loss.{lose}
 use Rattle.casper_model.specs.State.{State, own_at, with_shared}
 use Rattle.casper_model.specs.Step.{lose_turn}
-use Rattle.casper_hub.specs.GoesOn.{KeepsClient}
+use Rattle.casper_hub.specs.GoesOn.{KeepsClient, CommitsNothing}
 use Rattle.casper_hub.specs.HubView.{HubView}
 use Rattle.casper_hub.specs.Owned.{Owns, own_of}
 use Rattle.casper_hub.specs.Relying.{OwnsWhileKept, RightWhileKept}
@@ -33,11 +33,12 @@ module _ (who : ℕ) (hub : HubView) (own : cache.Own) (reply : Loss) (after : H
     unfinished = refl;
   }
 
-module _ (who : ℕ) (tells : Bool) (image : List (List ℕ)) (hub : HubView) (own : cache.Own) (after : HubView) (others : (other : ℕ) → KeepsClient other hub after) where
+module _ (who : ℕ) (tells : Bool) (image : List (List ℕ)) (hub : HubView) (own : cache.Own) (after : HubView) (others : (other : ℕ) → KeepsClient other hub after) (still : CommitsNothing hub after) where
   pub lost_leaves : IsSound after → ((base : List (List ℕ)) → FramesAreRight base hub → FramesAreRight base after) → KeepsHubRight who tells image hub own after
   lost_leaves sound frames = record {
     sound = sound;
     others = λ other away. others other;
+    still = still;
     frames = λ told base stored right words. frames base right;
   }
 

@@ -1,4 +1,4 @@
-use Rattle.std.proofs.Common.{◌≡◌, ◌≢◌, ◌⊎◌, ◌<◌, ℕ, List, [], ◌∷◌, ◌++◌, false, length-set, get_or-set_same, get_or-set_other, refl, sym, ap, ◌∙◌, subst, ⊎_elim, arith}
+use Rattle.std.proofs.Common.{◌≡◌, ◌≢◌, ◌⊎◌, ◌<◌, ℕ, List, [], ◌∷◌, ◌++◌, length, length-set, get_or-set_same, get_or-set_other, refl, sym, ap, ◌∙◌, subst, ⊎_elim, arith}
 use Rattle.std.specs.Prelude.{Option, None, Some, is_some}
 use Rattle.std.specs.List.{list_any}
 use Rattle.std.proofs.lemmas.Bool.{cases_eq}
@@ -29,6 +29,7 @@ use Rattle.casper_core.specs.Placing.{placed, IsPlaced, IsRight}
 use Rattle.casper_core.specs.Shaped.{RepresentsButWords}
 use Rattle.casper_core.specs.Sound.{Keeps, IsSound}
 use Rattle.casper_core.specs.Represents.{own_part, HasPartsOf}
+use Rattle.casper_core.proofs.StillLeads.{sealed_stays, alone_stays, in_doubt_stays}
 
 -- A core after a turn of a client is sound, and its parts are those of the state after it.
 
@@ -68,9 +69,9 @@ module _ {V : Type 0} (core : CoreView V) (who : ℕ) (hub : HubView) (place : O
       })
       cases
 
-  pub sound_placed : IsSound core → IsClient who → IsPlaced who core hub place → size ≡ core.size → told.doubt ≡ None
+  pub sound_placed : IsSound core → IsClient who → IsPlaced who core hub place → size ≡ core.size → is_some told.doubt ≡ is_some core.told.doubt
       → IsSound (placed core who hub place calls vault size told)
-  sound_placed sound client is same_size sure = record {
+  sound_placed sound client is same_size same_doubt = record {
     hub = is.sound;
     places = length-set core.caches who place ∙ sound.places;
     live = λ other. live_at sound client is other (cases_eq other who);
@@ -78,7 +79,9 @@ module _ {V : Type 0} (core : CoreView V) (who : ℕ) (hub : HubView) (place : O
     least = sound.least;
     most = sound.most;
     size = same_size ∙ sound.size ∙ sym (pages_stay sound client is);
-    sure = sure;
+    written = λ one is_one. sealed_stays core.hub hub sound.hub is.still one.lead (sound.written one is_one);
+    alone = λ one is_one. alone_stays core.hub hub sound.hub is.still (sound.alone one is_one);
+    doubtful = λ doubted. in_doubt_stays core.hub hub sound.hub is.still core.unfinished (sound.doubtful (sym same_doubt ∙ doubted));
   }
 
   module _ (state : State) (turn : Turn) (answer : Answer) where
@@ -98,6 +101,7 @@ module _ {V : Type 0} (core : CoreView V) (who : ℕ) (hub : HubView) (place : O
       shared = gives.shared;
       places = gives.places ∙ shape.places;
       owns = λ other below. owns_at sound client shape.owns gives other below (cases_eq other who);
+      unfinished = gives.unfinished ∙ shape.unfinished;
     }
 
     words_at : IsSound core → IsClient who → IsPlaced who core hub place → HasPartsOf state core → IsRight state.base hub place → (other : ℕ) (own : cache.Own) → (other ≡ who) ⊎ (other ≢ who)
@@ -112,39 +116,15 @@ module _ {V : Type 0} (core : CoreView V) (who : ℕ) (hub : HubView) (place : O
         right_while_kept state.base core.hub hub own sound.hub kept.owns (subst (λ number. KeepsClient number core.hub hub) (sym kept.client) (is.others other away)) (parts.words other own there))
         cases
 
-    stored_at : IsSound core → IsClient who → IsPlaced who core hub place → HasPartsOf state core → IsTurnResult who state turn answer hub (own_part core.capacity who place)
-        → stable_entries turn.state.shared.trail ≡ stable_entries state.shared.trail → AreStored state.base hub core.told.image
-    stored_at sound client is parts gives same page below =
-        let stored = parts.stored page (subst (λ count. page < count) (pages_stay sound client is) below) in
-        let entries : stable_entries hub.trail ≡ stable_entries core.hub.trail =
-        ap stable_entries (sym gives.shared.trail) ∙ same ∙ ap stable_entries parts.shared.trail in
-        record { long = stored.long; each = λ word inside. stored.each word inside ∙ ap (λ list. value_of state.base list page word) (sym entries) }
-
     pub parts_placed : IsSound core → IsClient who → IsPlaced who core hub place → HasPartsOf state core → IsTurnResult who state turn answer hub (own_part core.capacity who place)
-        → IsRight state.base hub place → stable_entries turn.state.shared.trail ≡ stable_entries state.shared.trail → told ≡ core.told
+        → IsRight state.base hub place → told ≡ core.told
         → HasPartsOf turn.state (placed core who hub place calls vault size told)
-    parts_placed sound client is parts gives right same same_told = record {
+    parts_placed sound client is parts gives right same_told = record {
       shared = gives.shared;
       owns = λ other below. owns_at sound client parts.owns gives other below (cases_eq other who);
-      finished = gives.unfinished ∙ parts.finished;
+      unfinished = gives.unfinished ∙ parts.unfinished;
       vault = gives.vault ∙ parts.vault ∙ sym same_told;
+      pages = ap length gives.base ∙ parts.pages ∙ sym (pages_stay sound client is);
       frames = subst (λ base. FramesAreRight base hub) (sym gives.base) right.frames;
       words = λ other own found. subst (λ base. CacheIsRight base hub own) (sym gives.base) (words_at sound client is parts right other own (cases_eq other who) found);
-      stored = subst (λ base. AreStored base hub told.image) (sym gives.base)
-          (subst (λ (one : VaultState). AreStored state.base hub one.image) (sym same_told) (stored_at sound client is parts gives same));
     }
-
--- What a turn of a client adds to a trail makes nothing stable.
-
-no_commits : (entries : List Entry) → list_any is_commit (as_items entries) ≡ false
-no_commits [] = refl
-no_commits (entry ∷ entries) = no_commits entries
-
-stable_with_entries : (trail : List Item) (entries : List Entry) → stable_entries (trail ++ as_items entries) ≡ stable_entries trail
-stable_with_entries trail entries = stable_without_commit trail (as_items entries) (no_commits entries)
-
-pub stable_stays : (who : ℕ) (pending : List Call) (before after : List Item) → AddsOwn who pending before after → stable_entries after ≡ stable_entries before
-stable_stays who pending before after AddsOwn.nothing = refl
-stable_stays who pending before after AddsOwn.calls = stable_with_entries before (entries_by who pending)
-stable_stays who pending before after (AddsOwn.touches wants) =
-    stable_with_entries (before ++ as_items (entries_by who pending)) (touches_by who wants) ∙ stable_with_entries before (entries_by who pending)

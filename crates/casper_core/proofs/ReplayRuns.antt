@@ -1,16 +1,17 @@
 use Rattle.std.proofs.Common.{◌≡◌, ◌<◌, ◌≤◌, ◌+◌, ◌-◌, ◌^◌, ℕ, Bool, cond, false, List, [], ◌∷◌, ◌++◌, true, true≢false, length, refl, sym, ap, ap₂, ◌∙◌, subst, arith}
-use Rattle.std.specs.Prelude.{IsTrue, min, slice_index_or, Result, Ok, Err, IsOk, OnOk}
+use Rattle.std.specs.Prelude.{IsTrue, min, slice_index_or, Contains, Result, Ok, Err, IsOk, OnOk}
 use Rattle.std.proofs.lemmas.Bool.{and_from, and_parts}
+use Rattle.std.proofs.lemmas.List.Elements.{Contains-get_or}
 use Rattle.casper_words.specs.Count.{FaultCountRose}
 use Rattle.casper_space.specs.declared.answer.Answer.{Answer}
 use Rattle.casper_space.specs.declared.answer.Answer.TheVariants as answer
 use Rattle.casper_model.specs.declared.event.Event.{Event}
 use Rattle.casper_model.specs.State.{State}
 use Rattle.casper_model.specs.Step.{step}
-use Rattle.casper_model.specs.Run.{Happening, is_disk, fits, all_fit, answers_of, state_after}
+use Rattle.casper_model.specs.Run.{Happening, fits, all_fit, answers_of, state_after}
 use Rattle.casper_core.specs.CoreView.{CoreView}
 use Rattle.casper_core.specs.Represents.{Represents}
-use Rattle.casper_core.specs.Stepping.{Steps, Runs, RoseBy, completes, counted, completed_in, failures_in, happening_of, happenings_of}
+use Rattle.casper_core.specs.Stepping.{Steps, Runs, RoseBy, is_fault, completes, counted, completed_in, failures_in, happening_of, happenings_of}
 
 -- A run of a core, step after step.
 
@@ -37,6 +38,10 @@ answers_more state (first ∷ following) next =
 after_more : (state : State) (before : List Happening) (next : Happening) → state_after state (before ++ next ∷ []) ≡ (step (state_after state before) next.event next.outside).state
 after_more state [] next = refl
 after_more state (first ∷ following) next = after_more (step state first.event first.outside).state following next
+
+-- an event at a place is one of the events
+pub contains_at : (events : List Event) (at : ℕ) (one : Event) → at < length events → one ≡ slice_index_or events at one → Contains events one
+contains_at events at one below is = subst (Contains events) (sym is) (Contains-get_or events at one below)
 
 pub run_nothing : {V : Type 0} (events : List Event) (core : CoreView V) → Runs events [] core core
 run_nothing events core state stands = record { outside_fits = refl; answers = refl; stands = stands }
@@ -67,8 +72,8 @@ pub of_ok : {T E : Type 0} (result : Result T E) (P : Type 0) → IsOk result �
 of_ok (Ok x) P ok is = is
 of_ok (Err e) P ok is = absurd (true≢false (sym ok))
 
--- how often a page could not be read, and how many calls were completed, with one more answer
-failures_more : (said : List Answer) (one : Answer) → failures_in (said ++ one ∷ []) ≡ failures_in said + cond (is_disk one) 1 0
+-- how many answers tell of a fault, and how many calls were completed, with one more answer
+failures_more : (said : List Answer) (one : Answer) → failures_in (said ++ one ∷ []) ≡ failures_in said + cond (is_fault one) 1 0
 failures_more [] one = omega arith
 failures_more (first ∷ said) one = let rest = failures_more said one in omega (arith, rest)
 
@@ -79,19 +84,15 @@ completed_more (event ∷ events) [] one last below is = ap (λ e. cond (complet
 completed_more (event ∷ events) (first ∷ said) one last below is =
     let rest = completed_more events said one last (omega (arith, below)) is in omega (arith, rest)
 
-is_of_disk : (said : Answer) → is_disk said ≡ true → said ≡ answer.Disk
-is_of_disk answer.Disk is = refl
-is_of_disk other is = absurd (true≢false (sym is))
-
 rose_by : (failed : Bool) (count before middle now : ℕ) → RoseBy count before middle → middle ≤ now → (failed ≡ true → FaultCountRose middle now) → RoseBy (count + cond failed 1 0) before now
 rose_by true count before middle now is falls rose = let one = rose refl in omega (arith, is, one)
 rose_by false count before middle now is falls rose = omega (arith, is, falls)
 
-pub rose_more : (said : List Answer) (one : Answer) (before middle now : ℕ) → RoseBy (failures_in said) before middle → middle ≤ now → (one ≡ answer.Disk → FaultCountRose middle now)
+pub rose_more : (said : List Answer) (one : Answer) (before middle now : ℕ) → RoseBy (failures_in said) before middle → middle ≤ now → (IsTrue (is_fault one) → FaultCountRose middle now)
     → RoseBy (failures_in (said ++ one ∷ [])) before now
 rose_more said one before middle now is falls rose =
     subst (λ count. RoseBy count before now) (sym (failures_more said one))
-    (rose_by (is_disk one) (failures_in said) before middle now is falls (λ disk. rose (is_of_disk one disk)))
+    (rose_by (is_fault one) (failures_in said) before middle now is falls rose)
 
 count_one : (completed : Bool) (before count : ℕ) → counted completed (min (before + count) (2 ^ 64 - 1)) ≡ min (before + (count + cond completed 1 0)) (2 ^ 64 - 1)
 count_one true before count = omega arith

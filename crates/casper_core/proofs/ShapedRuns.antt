@@ -23,11 +23,12 @@ own_in core who = own_part core.capacity who (cache_at core who)
 pub some_state : {V : Type 0} (core : CoreView V) → IsSound core → (state : State) × RepresentsButWords state core
 unfolding own_in
 some_state core sound = (
-  record { base = []; shared = (stands_for core.hub sound.hub.stands).shared; owns = map (own_in core) (range_with_len 0 33); vault = core.told; unfinished = None },
+  record { base = []; shared = (stands_for core.hub sound.hub.stands).shared; owns = map (own_in core) (range_with_len 0 33); vault = core.told; unfinished = core.unfinished },
   record {
     shared = (stands_for core.hub sound.hub.stands).shows;
     places = length-map-range_with_len (own_in core) 0 33;
     owns = λ who below. get_or-map-range_with_len (own_in core) 0 33 who who (machine.blank who 0) below (omega arith);
+    unfinished = refl;
   },
 )
 
@@ -38,6 +39,7 @@ shape_unchanged state core after same shape = record {
   places = shape.places;
   owns = λ who below.
       shape.owns who below ∙ ap₂ (λ capacity caches. own_part capacity who (slice_index_or caches who None)) (sym same.capacity) (sym same.caches);
+  unfinished = shape.unfinished ∙ sym same.unfinished;
 }
 
 state_more : (state : State) (events : List Event) (said : List Answer) (one : Event) (last : Answer) → length said < length events → one ≡ slice_index_or events (length said) one

@@ -6,12 +6,13 @@ use Rattle.std.proofs.lemmas.List.{get_or_past}
 use Rattle.casper_words.specs.declared.page.Want.{Want}
 use Rattle.casper_trail.proofs.LinkLists.{contains_there}
 use Rattle.casper_words.specs.Crew.{IsClient}
-use Rattle.casper_trail.specs.Parts.{stable_entries}
 use Rattle.casper_space.specs.declared.answer.Answer.{Answer}
 use Rattle.casper_cache.specs.Own as cache
+use Rattle.casper_space.specs.declared.answer.Answer.TheVariants as answer
 use Rattle.casper_model.specs.declared.event.Event.{Event}
+use Rattle.casper_model.specs.declared.event.Event.TheVariants as event
 use Rattle.casper_model.specs.Shared.{is_live}
-use Rattle.casper_model.specs.Outside.{Outside, NothingFailed, LoadFailed}
+use Rattle.casper_model.specs.Outside.{Outside, NothingFailed, LoadFailed, SettleFailed}
 use Rattle.casper_model.specs.Rights.{NamesClients}
 use Rattle.casper_model.specs.State.{State, own_at}
 use Rattle.casper_model.specs.Own as machine
@@ -33,24 +34,41 @@ use Rattle.casper_core.specs.UnheldPages.{UnheldPagesAreRight}
 use Rattle.casper_trail.specs.Legal.{IsLegal}
 use Rattle.casper_hub.specs.Shows.{Shows}
 use Rattle.casper_hub.proofs.Showing.{liveness_shown}
-use Rattle.casper_core.specs.Acting.{outside_of, IsPart, IsTurnResult, RefinesTurn, KeepsHubRight, Holds}
+use Rattle.casper_core.specs.Acting.{outside_of, outside_written, outside_in, IsPart, IsTurnResult, RefinesTurn, KeepsHubRight, Holds}
 use Rattle.casper_core.specs.CoreView.{CoreView, cache_at}
 use Rattle.casper_core.specs.Placing.{placed, IsPlaced, IsRight}
 use Rattle.casper_core.specs.Shaped.{IsShape, RepresentsButWords, IsMade, step_with}
 use Rattle.casper_core.specs.Sound.{IsSound}
 use Rattle.casper_core.specs.Represents.{own_part, HasPartsOf, Represents}
 use Rattle.casper_core.specs.Stepping.{IsAnswered, Steps, HasLegalTrail}
+use Rattle.casper_laws.proofs.StepFrozen.{step_orderly}
+use Rattle.casper_laws.proofs.StepImage.{step_stored}
 use Rattle.casper_core.proofs.Places.{parts_placed}
+use Rattle.casper_core.proofs.Stored.{stored_of, clean_unframed}
 
 -- A step of a core is the machine's step.
 
 -- an answer tells of what the outside did
+write_tells : (said : Answer) → tells_of (outside_written said) said ≡ true
+write_tells answer.Disk = refl
+write_tells answer.Doubt = refl
+write_tells other = refl
+
+settle_by : (answer : Answer) (disk : Bool) → is_disk answer ≡ disk → tells_of (cond disk SettleFailed NothingFailed) answer ≡ true
+settle_by answer true is = is
+settle_by answer false is = refl
+
 tells_by : (answer : Answer) (disk : Bool) → is_disk answer ≡ disk → tells_of (cond disk LoadFailed NothingFailed) answer ≡ true
 tells_by answer true is = is
 tells_by answer false is = refl
 
-pub answer_tells : (said : Answer) → tells_of (outside_of said) said ≡ true
-answer_tells said = tells_by said (is_disk said) refl
+client_tells : (said : Answer) → tells_of (outside_of said) said ≡ true
+client_tells said = tells_by said (is_disk said) refl
+
+pub answer_tells : (one : Event) (said : Answer) → tells_of (outside_in one said) said ≡ true
+answer_tells (event.WriteOut lead) said = write_tells said
+answer_tells event.Settle said = settle_by said (is_disk said) refl
+answer_tells other said = client_tells said
 
 pub live_where : {V : Type 0} (core : CoreView V) (who : ℕ) (live : Bool) (state : State) → IsSound core → Shows state.shared core.hub → is_some (cache_at core who) ≡ live
     → is_live state.shared who ≡ live
@@ -58,20 +76,22 @@ live_where core who live state sound shows is = liveness_shown state.shared core
 
 -- an answer that is the machine's
 pub answered_by : {V : Type 0} (state : State) (event : Event) (said : Answer) (core after : CoreView V) → NamesClients event → Represents state core
-    → said ≡ (step state event (outside_of said)).answer → HasPartsOf (step state event (outside_of said)).state after → IsAnswered state event said after
+    → said ≡ (step state event (outside_in event said)).answer → HasPartsOf (step state event (outside_in event said)).state after → IsAnswered state event said after
 answered_by state event said core after named stands is parts = record {
-  outside_fits = ap (tells_of (outside_of said)) (sym is) ∙ answer_tells said;
+  outside_fits = ap (tells_of (outside_in event said)) (sym is) ∙ answer_tells event said;
   answers = is;
   stands = record {
     parts = parts;
-    history = step_history state event (outside_of said) named stands.history;
-    room = step_room state event (outside_of said) named stands.history.order stands.room;
+    history = step_history state event (outside_in event said) named stands.history;
+    room = step_room state event (outside_in event said) named stands.history.order stands.room;
+    orderly = step_orderly state event (outside_in event said) named stands.history stands.orderly;
+    image = step_stored state event (outside_in event said) named stands.history stands.orderly stands.image;
   };
 }
 
 -- an answer where nothing has changed
 pub answered_same : {V : Type 0} (state : State) (event : Event) (said : Answer) (core after : CoreView V) → NamesClients event → Represents state core
-    → step state event (outside_of said) ≡ record { answer = said; state = state } → HasPartsOf state after → IsAnswered state event said after
+    → step state event (outside_in event said) ≡ record { answer = said; state = state } → HasPartsOf state after → IsAnswered state event said after
 answered_same state event said core after named stands is parts =
     answered_by state event said core after named stands (sym (ap (λ (turn : Turn). turn.answer) is)) (subst (λ (turn : Turn). HasPartsOf turn.state after) (sym is) parts)
 
@@ -89,7 +109,7 @@ part_of core who own state client found stands = record {
   shared = stands.parts.shared;
   place = omega (arith, client.1, stands.history.order.shaped.owns);
   part = stands.parts.owns who (omega (arith, client.1)) ∙ ap (own_part core.capacity who) found;
-  stored = stands.parts.stored;
+  stored = stored_of state core stands;
   frames = stands.parts.frames;
   words = stands.parts.words who own found;
 }
@@ -101,6 +121,7 @@ pub placed_again : {V : Type 0} (core : CoreView V) (who : ℕ) (own : cache.Own
 placed_again core who own tells image after own_after sound found leaves holds = record {
   sound = leaves.sound;
   others = leaves.others;
+  still = leaves.still;
   live = sym (subst (λ number. hub.is_live after number ≡ true) holds.client holds.owns.live);
   client = λ one is. subst (λ (o : cache.Own). o.client ≡ who) (some_is is) holds.client;
   same_capacity = λ one is. subst (λ (o : cache.Own). o.capacity ≡ core.capacity) (some_is is) (holds.capacity ∙ (sound.kept who own found).capacity);
@@ -111,29 +132,28 @@ placed_again core who own tells image after own_after sound found leaves holds =
     some_is is = ap (λ o. unwrap_or o own) is
 
 pub right_again : {V : Type 0} (core : CoreView V) (who : ℕ) (own : cache.Own) (tells : Bool) (state : State) (after : HubView) (own_after : cache.Own) → IsTrue tells
-    → cache_at core who ≡ Some own → HasPartsOf state core → KeepsHubRight who tells core.told.image core.hub own after → Holds who tells core.told.image core.hub own after own_after
+    → cache_at core who ≡ Some own → Represents state core → KeepsHubRight who tells core.told.image core.hub own after → Holds who tells core.told.image core.hub own after own_after
     → IsRight state.base after (Some own_after)
-right_again core who own tells state after own_after told found parts leaves holds = record {
-  frames = leaves.frames told state.base parts.stored parts.frames (parts.words who own found);
-  words = λ one is. subst (CacheIsRight state.base after) (ap (λ o. unwrap_or o own) is) (holds.words told state.base parts.stored parts.frames (parts.words who own found));
+right_again core who own tells state after own_after told found stands leaves holds = record {
+  frames = leaves.frames told state.base (stored_of state core stands) stands.parts.frames (stands.parts.words who own found);
+  words = λ one is. subst (CacheIsRight state.base after) (ap (λ o. unwrap_or o own) is) (holds.words told state.base (stored_of state core stands) stands.parts.frames (stands.parts.words who own found));
 }
 
 -- the step of a live client that keeps its cache
 pub client_answered : {V : Type 0} (core : CoreView V) (who : ℕ) (own : cache.Own) (event : Event) (said : Answer) (turn : Outside → State → Turn) (tells : Bool) (after : HubView) (own_after : cache.Own)
     (calls : ℕ) (vault : V) (size : ℕ) (told : VaultState) → IsTrue tells → IsSound core → IsClient who → cache_at core who ≡ Some own → NamesClients event
-    → ((state : State) → stable_entries (step state event (outside_of said)).state.shared.trail ≡ stable_entries state.shared.trail)
-    → ((state : State) → Represents state core → step state event (outside_of said) ≡ turn (outside_of said) state)
+    → ((state : State) → Represents state core → step state event (outside_in event said) ≡ turn (outside_of said) state)
     → RefinesTurn who tells core.told.image turn core.hub own said after own_after
     → KeepsHubRight who tells core.told.image core.hub own after → Holds who tells core.told.image core.hub own after own_after → told ≡ core.told
     → Steps event said core (placed core who after (Some own_after) calls vault size told)
-client_answered core who own event said turn tells after own_after calls vault size told is_told sound client found named stable is does leaves holds same state stands =
+client_answered core who own event said turn tells after own_after calls vault size told is_told sound client found named is does leaves holds same state stands =
     let gives = does is_told state (part_of core who own state client found stands) in
-    let of_step : IsTurnResult who state (step state event (outside_of said)) said after (own_of own_after) =
+    let of_step : IsTurnResult who state (step state event (outside_in event said)) said after (own_of own_after) =
     subst (λ one. IsTurnResult who state one said after (own_of own_after)) (sym (is state stands)) gives in
     answered_by state event said core (placed core who after (Some own_after) calls vault size told) named stands of_step.answers
-    (parts_placed core who after (Some own_after) calls vault size told state (step state event (outside_of said)) said sound client
+    (parts_placed core who after (Some own_after) calls vault size told state (step state event (outside_in event said)) said sound client
     (placed_again core who own tells core.told.image after own_after sound found leaves holds) stands.parts of_step
-    (right_again core who own tells state after own_after is_told found stands.parts leaves holds) (stable state) same)
+    (right_again core who own tells state after own_after is_told found stands leaves holds) same)
 
 -- the trail of a core that stands for a state is legal
 pub legal_of : {V : Type 0} (state : State) (core : CoreView V) → Represents state core → HasLegalTrail state core
@@ -159,7 +179,9 @@ sound_counted core calls sound = record {
   least = sound.least;
   most = sound.most;
   size = sound.size;
-  sure = sound.sure;
+  written = sound.written;
+  alone = sound.alone;
+  doubtful = sound.doubtful;
 }
 
 pub stands_counted : {V : Type 0} (state : State) (core : CoreView V) (calls : ℕ) → Represents state core → Represents state (record core { calls = calls })
@@ -167,26 +189,33 @@ stands_counted state core calls stands = record {
   parts = record {
     shared = stands.parts.shared;
     owns = stands.parts.owns;
-    finished = stands.parts.finished;
+    unfinished = stands.parts.unfinished;
     vault = stands.parts.vault;
+    pages = stands.parts.pages;
     frames = stands.parts.frames;
     words = stands.parts.words;
-    stored = stands.parts.stored;
   };
   history = stands.history;
   room = stands.room;
+  orderly = stands.orderly;
+  image = stands.image;
 }
 
 pub answered_counted : {V : Type 0} (state : State) (event : Event) (said : Answer) (core : CoreView V) (calls : ℕ) → IsAnswered state event said core → IsAnswered state event said (record core { calls = calls })
 answered_counted state event said core calls is = record {
   outside_fits = is.outside_fits;
   answers = is.answers;
-  stands = stands_counted (step state event (outside_of said)).state core calls is.stands;
+  stands = stands_counted (step state event (outside_in event said)).state core calls is.stands;
 }
 
 -- a state that a core stands for has its shape
 pub shape_of : {V : Type 0} (state : State) (core : CoreView V) → Represents state core → RepresentsButWords state core
-shape_of state core stands = record { shared = stands.parts.shared; places = stands.history.order.shaped.owns; owns = stands.parts.owns }
+shape_of state core stands = record {
+  shared = stands.parts.shared;
+  places = stands.history.order.shaped.owns;
+  owns = stands.parts.owns;
+  unfinished = stands.parts.unfinished;
+}
 
 -- the part of a state that is a client's
 pub shape_at : {V : Type 0} (core : CoreView V) (who : ℕ) (own : cache.Own) (state : State) → IsClient who → cache_at core who ≡ Some own → RepresentsButWords state core
@@ -219,22 +248,23 @@ made_same state event said after is shape = record {
 pub made_counted : {V : Type 0} (state : State) (event : Event) (said : Answer) (core : CoreView V) (calls : ℕ) → IsMade state event said core → IsMade state event said (record core { calls = calls })
 made_counted state event said core calls is = record {
   answers = is.answers;
-  shape = record { shared = is.shape.shared; places = is.shape.places; owns = is.shape.owns };
+  shape = record { shared = is.shape.shared; places = is.shape.places; owns = is.shape.owns; unfinished = is.shape.unfinished };
 }
 
 -- a page that nobody holds for writing
-unheld_page : (value stored : ℕ → ℕ → ℕ) (page : ℕ) (kept : List ℕ) (frame : Option (List ℕ)) → AreWords stored page kept
+unheld_page : (value stored : ℕ → ℕ → ℕ) (page : ℕ) (kept : List ℕ) (frame : Option (List ℕ)) → (frame ≡ None → AreWords stored page kept)
     → MatchOption frame ((word : ℕ) → word < 512 → value page word ≡ stored page word) (λ words. AreWords value page words)
     → MatchOption frame (AreWords value page kept) (λ words. AreWords value page words)
-unheld_page value stored page kept None are same = record { long = are.long; each = λ word below. are.each word below ∙ sym (same word below) }
+unheld_page value stored page kept None are same = let stored = are refl in record { long = stored.long; each = λ word below. stored.each word below ∙ sym (same word below) }
 unheld_page value stored page kept (Some words) are same = same
 
-pub unheld_of : {V : Type 0} (state : State) (core : CoreView V) → Represents state core → UnheldPagesAreRight state core
-unheld_of state core stands page below free =
-    unheld_page (live_value state.base core.hub) (stored_value state.base core.hub) page (page_at core.told.image page) (frame_in core.hub.pages page) (stands.parts.stored page below)
+pub unheld_of : {V : Type 0} (state : State) (core : CoreView V) → IsSound core → Represents state core → UnheldPagesAreRight state core
+unheld_of state core sound stands page below free =
+    unheld_page (live_value state.base core.hub) (stored_value state.base core.hub) page (page_at core.told.image page) (frame_in core.hub.pages page)
+    (λ none. stored_of state core stands page below (clean_unframed core.hub sound.hub page none))
     (stands.parts.frames page (λ writer is. cc))
 
 -- what a step adds to the trail
 pub adds_of : {V : Type 0} (event : Event) (said : Answer) (core after : CoreView V) → Steps event said core after → (state : State) → Represents state core → StepAdds state event after.hub.trail
 adds_of event said core after steps state stands =
-    subst (StepAdds state event) (steps state stands).stands.parts.shared.trail (step_adds state event (outside_of said))
+    subst (StepAdds state event) (steps state stands).stands.parts.shared.trail (step_adds state event (outside_in event said))

@@ -2,7 +2,22 @@ use Rattle.std.proofs.Common.{◌≤◌, ℕ, Bool, List, refl, ◌∙◌, ⊎_e
 use Rattle.std.specs.Prelude.{Option, IsTrue}
 use Rattle.casper_space.specs.Changes.{Change, VaultRoom}
 use Rattle.casper_disk.specs.Vault.{Saved}
-use Rattle.casper_core.specs.Loading.{OnlyReads}
+use Rattle.casper_core.specs.Loading.{OnlyReads, KeepsVault}
+
+-- What keeps a vault, over any number of steps.
+
+module _ {V : Type 0} (size : V → ℕ) (faults : V → ℕ) (leads_to : V → V → Type 0)
+    (leads_to_itself : (vault : V) → leads_to vault vault)
+    (leads_on : (first second third : V) → leads_to first second → leads_to second third → leads_to first third) where
+  pub keeps_nothing : (vault : V) → KeepsVault size faults leads_to vault vault
+  keeps_nothing vault = record { same_size = refl; never_falls = omega arith; leads = leads_to_itself vault }
+
+  pub keeps_again : (first second third : V) → KeepsVault size faults leads_to first second → KeepsVault size faults leads_to second third → KeepsVault size faults leads_to first third
+  keeps_again first second third one two = record {
+    same_size = two.same_size ∙ one.same_size;
+    never_falls = omega (arith, one.never_falls, two.never_falls);
+    leads = leads_on first second third one.leads two.leads;
+  }
 
 -- What is read of a vault leaves what it tells, over any number of reads.
 
@@ -18,7 +33,7 @@ module _ {V : Type 0} (tells : Bool) (size : V → ℕ) (image : V → List (Lis
     same_size = refl;
     same_version = refl;
     same_room = refl;
-    sure = λ is. is;
+    same_doubt = refl;
     told = λ told. refl;
     images = λ told. record {
       later = omega arith;
@@ -37,7 +52,7 @@ module _ {V : Type 0} (tells : Bool) (size : V → ℕ) (image : V → List (Lis
     same_size = two.same_size ∙ one.same_size;
     same_version = two.same_version ∙ one.same_version;
     same_room = two.same_room ∙ one.same_room;
-    sure = λ is. two.sure (one.sure is);
+    same_doubt = two.same_doubt ∙ one.same_doubt;
     told = λ told. two.told told ∙ one.told told;
     images = λ told.
         let earlier = one.images told in

@@ -3,7 +3,7 @@ use Rattle.casper_model.specs.declared.event.Event.{Event}
 use Rattle.casper_model.specs.declared.event.Event.TheVariants as event
 use Rattle.casper_model.specs.Outside.{Outside}
 use Rattle.casper_model.specs.State.{State}
-use Rattle.casper_model.specs.Step.{step, read_turn, write_turn, acquire_turn, serve_turn, lose_turn}
+use Rattle.casper_model.specs.Step.{step, read_turn, write_turn, acquire_turn, serve_turn, stabilise_turn, lose_turn}
 use Rattle.casper_model.specs.Turn.{Turn, within, is_in_range, are_in_range}
 
 -- an event of a client in which it keeps its cache, also where another declares it lost
@@ -14,7 +14,7 @@ IsTurnOf who (event.Write one page word value) = one ≡ who
 IsTurnOf who (event.Acquire one wants) = one ≡ who
 IsTurnOf who (event.Hold one wants) = ⊥
 IsTurnOf who (event.Serve one) = one ≡ who
-IsTurnOf who (event.Stabilise one) = ⊥
+IsTurnOf who (event.Stabilise one) = one ≡ who
 IsTurnOf who (event.WriteOut lead) = ⊥
 IsTurnOf who (event.Finish lead) = ⊥
 IsTurnOf who event.Settle = ⊥
@@ -30,7 +30,7 @@ client_turn who (event.Write one page word value) outside state = within (is_in_
 client_turn who (event.Acquire one wants) outside state = within (are_in_range wants) (acquire_turn who wants outside) state
 client_turn who (event.Serve one) outside state = serve_turn who state
 client_turn who (event.Hold one wants) outside state = step state (event.Hold one wants) outside
-client_turn who (event.Stabilise one) outside state = step state (event.Stabilise one) outside
+client_turn who (event.Stabilise one) outside state = stabilise_turn who state
 client_turn who (event.WriteOut lead) outside state = step state (event.WriteOut lead) outside
 client_turn who (event.Finish lead) outside state = step state (event.Finish lead) outside
 client_turn who event.Settle outside state = step state event.Settle outside

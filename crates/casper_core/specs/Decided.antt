@@ -18,19 +18,34 @@ decided hub (event.Read who page word) = decided_of (is_live hub who) (nat_lt pa
 decided hub (event.Write who page word value) = decided_of (is_live hub who) (nat_lt page (page_count hub) && nat_lt word 512)
 decided hub (event.Acquire who wants) = decided_of (is_live hub who) (list_all (λ want. nat_lt want.page (page_count hub)) wants)
 decided hub (event.Serve who) = decided_of (is_live hub who) true
+decided hub (event.Stabilise who) = decided_of (is_live hub who) true
 decided hub (event.Depart who) = decided_of (is_live hub who) true
 decided hub (event.Vanish who) = decided_of (is_live hub who) true
 decided hub (event.Lose who) = decided_of (is_live hub who) true
 decided hub other = None
 
--- whether an answer is none of a turn
+-- whether an answer is one to a client alone, and of no turn
+abbrev pub is_before_turn : Answer → Bool
+is_before_turn answer.Joined = true
+is_before_turn answer.Busy = true
+is_before_turn answer.Absent = true
+is_before_turn answer.Range = true
+is_before_turn other = false
+
+-- whether an answer is none of a turn but a write-out
 abbrev pub is_of_no_turn : Answer → Bool
 is_of_no_turn answer.Joined = true
 is_of_no_turn answer.Busy = true
 is_of_no_turn answer.Absent = true
 is_of_no_turn answer.Range = true
+is_of_no_turn answer.Doubt = true
 is_of_no_turn other = false
+
+-- an answer is one of the turn that an event is
+abbrev pub IsOfTurn : Event → Answer → Type 0
+IsOfTurn (event.WriteOut lead) said = IsFalse (is_before_turn said)
+IsOfTurn other said = IsFalse (is_of_no_turn said)
 
 -- an answer is the one that is decided, and where none is, it is one of a turn
 abbrev pub AnswersByTheHub : HubView → Event → Answer → Type 0
-AnswersByTheHub hub one said = MatchOption (decided hub one) (IsFalse (is_of_no_turn said)) (λ answer. said ≡ answer)
+AnswersByTheHub hub one said = MatchOption (decided hub one) (IsOfTurn one said) (λ answer. said ≡ answer)

@@ -9,3 +9,4 @@ pub mod Sound
 pub mod Represents
 pub mod Stepping
 pub mod UnheldPages
+pub mod WritingOut

@@ -1,5 +1,6 @@
-use Rattle.std.specs.Prelude.{◌≡◌, ℕ, ◌<◌, ◌≤◌, Bool, List, Option, None, Some, IsSome, IsTrue, false}
+use Rattle.std.specs.Prelude.{◌≡◌, ℕ, ◌<◌, ◌≤◌, Bool, List, Option, None, Some, is_some, IsSome, IsTrue, false}
 use Rattle.casper_words.specs.declared.page.Want.{Want}
+use Rattle.casper_trail.specs.Modified.{is_modified}
 use Rattle.casper_space.specs.Changes.{Change, VaultRoom}
 use Rattle.casper_disk.specs.Disk.{Took}
 use Rattle.casper_disk.specs.Vault.{Saved, page_at}
@@ -24,9 +25,15 @@ pub record OnlyReads {V : Type 0} (tells : Bool) (size : V → ℕ) (image : V �
   pub same_size : size after ≡ size before
   pub same_version : version after ≡ version before
   pub same_room : room after ≡ room before
-  pub sure : doubt before ≡ None → doubt after ≡ None
+  pub same_doubt : is_some (doubt after) ≡ is_some (doubt before)
   pub told : IsTrue tells → told_by image version room doubt after ≡ told_by image version room doubt before
   pub images : IsTrue tells → Took (moment before) (moment after) (since before) (since after) (now before)
+  pub never_falls : faults before ≤ faults after
+  pub leads : leads_to before after
+
+-- a vault has its pages, the count of its faults did not fall, and what each call of it keeps stayed
+pub record KeepsVault {V : Type 0} (size : V → ℕ) (faults : V → ℕ) (leads_to : V → V → Type 0) (before after : V) : Type 0 where
+  pub same_size : size after ≡ size before
   pub never_falls : faults before ≤ faults after
   pub leads : leads_to before after
 
@@ -35,9 +42,9 @@ pub record OnlyLoads (hub after : HubView) : Type 0 where
   pub same : after ≡ record hub { pages = record hub.pages { frames = after.pages.frames } }
   pub stays : (page : ℕ) → IsSome (frame_in hub.pages page) → IsSome (frame_in after.pages page)
 
--- the pages of a vault's image have the values over the stable entries
+-- the pages of a vault's image that are not modified have the values over the stable entries
 abbrev pub AreStored : List (List ℕ) → HubView → List (List ℕ) → Type 0
-AreStored base hub image = (page : ℕ) → page < page_count hub → IsStored base hub page (page_at image page)
+AreStored base hub image = (page : ℕ) → page < page_count hub → is_modified hub.trail page ≡ false → IsStored base hub page (page_at image page)
 
 -- an acquire would have been granted with a page missing, and a page could not be read: nothing has changed
 pub record LoadFails (hub : HubView) (own : cache.Own) (wants : List Want) (calls : ℕ) (after : HubView) (own_after : cache.Own) : Type 0 where

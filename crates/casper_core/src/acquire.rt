@@ -39,7 +39,6 @@ pub(crate) fn acquire<V: Vault>(
     requires some { 1 ≤ calls }
     requires few { calls ≤ 4096 }
     requires size { V.size vault.old ≡ page_count hub.old }
-    requires sure { V.doubt vault.old ≡ None }
     requires sound { IsSound hub.old }
     ensures turn { IfOk result
         (λ reply. Acquired hub.old cache.old wants.now calls reply hub.new cache.new) }

@@ -12,7 +12,7 @@ ghost use Rattle.casper_core.specs.Loading.{OnlyReads, OnlyLoads};
 ghost use Rattle.casper_core.specs.Shaped.{RefinesTurnButValues, read_with, client_turn_with};
 
 use crate::acquire::acquire;
-use crate::answers::{answer_of, answer_of_lose, answer_of_serve};
+use crate::answers::{answer_of, answer_of_lose, answer_of_serve, answer_of_stabilise};
 use crate::calls::{read, write};
 use casper_cache::Cache;
 use casper_disk::Vault;
@@ -36,7 +36,6 @@ fn read_within<V: Vault>(
     requires client { cache.old.client ≡ who }
     requires owns { Owns hub.old cache.old }
     requires size { V.size vault.old ≡ page_count hub.old }
-    requires sure { V.doubt vault.old ≡ None }
     requires sound { IsSound hub.old }
     ensures makes { IfOk result
         (λ answer. RefinesTurnButValues who
@@ -76,7 +75,6 @@ fn write_within<V: Vault>(
     requires client { cache.old.client ≡ who }
     requires owns { Owns hub.old cache.old }
     requires size { V.size vault.old ≡ page_count hub.old }
-    requires sure { V.doubt vault.old ≡ None }
     requires sound { IsSound hub.old }
     ensures makes { IfOk result
         (λ answer. RefinesTurnButValues who
@@ -111,7 +109,6 @@ fn acquire_within<V: Vault>(
     requires client { cache.old.client ≡ who }
     requires owns { Owns hub.old cache.old }
     requires size { V.size vault.old ≡ page_count hub.old }
-    requires sure { V.doubt vault.old ≡ None }
     requires sound { IsSound hub.old }
     ensures makes { IfOk result
         (λ answer. RefinesTurnButValues who
@@ -139,8 +136,8 @@ fn acquire_within<V: Vault>(
     Ok(answer_of(reply))
 }
 
-/// A turn of a live client: a read, a write, an acquire, a serve, or that another declares it lost. After Memory nothing has changed, but the server may have got
-/// frames.
+/// A turn of a live client: a read, a write, an acquire, a serve, a stabilise, or that another declares it lost. After Memory nothing
+/// has changed, but the server may have got frames.
 pub(crate) fn act<V: Vault>(
     alloc: Global,
     hub: &mut Hub,
@@ -153,7 +150,6 @@ pub(crate) fn act<V: Vault>(
     requires client { cache.old.client ≡ who }
     requires owns { Owns hub.old cache.old }
     requires size { V.size vault.old ≡ page_count hub.old }
-    requires sure { V.doubt vault.old ≡ None }
     requires sound { IsSound hub.old }
     ensures makes { IfOk result
         (λ answer. RefinesTurnButValues who
@@ -178,6 +174,7 @@ pub(crate) fn act<V: Vault>(
         }
         Event::Acquire(_, wants) => acquire_within(alloc, hub, vault, who, cache, wants),
         Event::Serve(_) => Ok(answer_of_serve(hub.serve(who, cache)?)),
+        Event::Stabilise(_) => Ok(answer_of_stabilise(hub.stabilise(who, cache)?)),
         Event::Lose(_) => Ok(answer_of_lose(hub.lose(who))),
         _ => unreachable!(),
     }

@@ -37,7 +37,6 @@ pub(crate) fn read<V: Vault>(
     requires page { page < page_count hub.old }
     requires word { word < 512 }
     requires size { V.size vault.old ≡ page_count hub.old }
-    requires sure { V.doubt vault.old ≡ None }
     requires sound { IsSound hub.old }
     ensures makes { IfOk result
         (λ answer. RefinesTurnButValues who
@@ -92,7 +91,6 @@ pub(crate) fn write<V: Vault>(
     requires page { page < page_count hub.old }
     requires word { word < 512 }
     requires size { V.size vault.old ≡ page_count hub.old }
-    requires sure { V.doubt vault.old ≡ None }
     requires sound { IsSound hub.old }
     ensures makes { IfOk result
         (λ answer. RefinesTurnButValues who

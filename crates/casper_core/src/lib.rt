@@ -6,6 +6,7 @@ mod acts;
 mod answers;
 mod calls;
 mod depart;
+mod finish;
 mod join;
 mod load;
 mod replay;
@@ -13,6 +14,7 @@ mod state;
 mod step;
 mod turn;
 mod vanish;
+mod write_out;
 
 pub use casper_model::Event;
 pub use casper_space::{Answer, Answers};

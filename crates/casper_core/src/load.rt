@@ -1,5 +1,6 @@
 ghost use Rattle.std.specs.Prelude.{◌≡◌, ◌<◌, ℕ, List, true, false, None, IfOk, IsSome, IsTrue};
 ghost use Rattle.casper_words.specs.Count.{FaultCountRose};
+ghost use Rattle.casper_trail.specs.Modified.{is_modified};
 ghost use Rattle.casper_trail.specs.TrailView.{commit_count};
 ghost use Rattle.casper_hub.specs.HubView.{frame_in, page_count};
 ghost use Rattle.casper_hub.specs.Sound.{IsSound};
@@ -11,7 +12,7 @@ use casper_hub::Hub;
 use casper_words::{Frame, Memory, Page};
 use std::alloc::Global;
 
-/// Reads a page from the vault, and gives the server a frame of it. False where it could not be read. The server gets no other
+/// Reads a page that is not modified from the vault, and gives the server a frame of it. False where it could not be read. The server gets no other
 /// frame, and nothing else changes.
 pub(crate) fn load<V: Vault>(
     alloc: Global,
@@ -21,6 +22,7 @@ pub(crate) fn load<V: Vault>(
     marks: u64,
 ) -> Result<bool, Memory>
     requires range { page < page_count hub.old }
+    requires clean { is_modified hub.old.trail page ≡ false }
     requires marks { marks ≡ commit_count hub.old.trail }
     requires size { V.size vault.old ≡ page_count hub.old }
     ensures loaded { IfOk result (λ read. read ≡ true → IsSome (frame_in hub.new.pages page)) }

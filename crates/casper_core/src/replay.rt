@@ -1,11 +1,11 @@
 ghost use Rattle.std.specs.Prelude.{◌≡◌, ◌+◌, ◌-◌, ◌^◌, ◌++◌, ◌≤◌, List, IsTrue, OnOk, length, min};
 ghost use Rattle.casper_space.specs.declared.answer.Answer.{Answer as AnAnswer};
 ghost use Rattle.casper_model.specs.State.{State};
-ghost use Rattle.casper_core.specs.Loading.{OnlyReads};
+ghost use Rattle.casper_core.specs.Loading.{OnlyReads, KeepsVault};
 ghost use Rattle.casper_core.specs.Shaped.{RunsInShape};
 ghost use Rattle.casper_core.specs.Sound.{IsSound};
 ghost use Rattle.casper_core.specs.Represents.{Represents};
-ghost use Rattle.casper_core.specs.Stepping.{AreBuilt, Runs, HasLegalTrail, RoseBy, completed_in, failures_in};
+ghost use Rattle.casper_core.specs.Stepping.{AreBuilt, AreReadOnly, Runs, HasLegalTrail, RoseBy, completed_in, failures_in};
 ghost use Rattle.casper_core.specs.UnheldPages.{UnheldPagesAreRight};
 
 use crate::{Core, StepFault};
@@ -30,8 +30,10 @@ impl<V: Vault> Core<V> {
         ensures legal { (state : State) → Represents state self.new → HasLegalTrail state self.new }
         ensures unheld { (state : State) → Represents state self.new
             → UnheldPagesAreRight state self.new }
-        ensures vault { OnlyReads V.tells V.size V.image V.version V.room V.doubt V.images_now
-            V.moment V.images_since V.faults V.leads_to self.old.vault self.new.vault }
+        ensures reads { AreReadOnly events.now → OnlyReads V.tells V.size V.image V.version V.room
+            V.doubt V.images_now V.moment V.images_since V.faults V.leads_to self.old.vault
+            self.new.vault }
+        ensures vault { KeepsVault V.size V.faults V.leads_to self.old.vault self.new.vault }
         ensures sound { IsSound self.new }
     {
         let _mark: Option<Mark> = None;

@@ -8,13 +8,29 @@ ghost use Rattle.casper_core.specs.CoreView.{told_by};
 use casper_cache::Cache;
 use casper_disk::Vault;
 use casper_hub::Hub;
+use casper_model::Outcome;
 use casper_trail::Mark;
 use casper_words::{Memory, Who};
 use std::alloc::Global;
 use std::marker::Model;
 
-/// What answers events one after another: the hub, a cache for each live client, and the vault. Contracts see these three, and what
-/// the vault tells of its image.
+/// A write-out that was made and is not finished: the lead of its association, and how it ended.
+#[derive(Drop)]
+pub(crate) struct Unfinished {
+    pub(crate) lead: Who,
+    pub(crate) outcome: Outcome,
+}
+
+impl Model for Unfinished {
+    ghost use Rattle.casper_model.specs.State.{Unfinished as MachineUnfinished};
+
+    ghost Value = { MachineUnfinished };
+
+    ghost view = { λ own. record { lead = own.lead; outcome = own.outcome } };
+}
+
+/// What answers events one after another: the hub, a cache for each live client, the write-out that is unfinished, and the vault.
+/// Contracts see these four, and what the vault tells of its image.
 #[derive(Drop)]
 pub struct Core<V: Vault> {
     pub(crate) alloc: Global,
@@ -22,6 +38,7 @@ pub struct Core<V: Vault> {
     pub(crate) caches: Vec<Option<Cache>>,
     pub(crate) vault: V,
     pub(crate) capacity: u32,
+    pub(crate) unfinished: Option<Unfinished>,
     pub(crate) calls: u64,
 }
 
@@ -36,6 +53,7 @@ impl<V: Vault> Model for Core<V> {
       hub = core.hub;
       caches = core.caches.items;
       capacity = core.capacity;
+      unfinished = core.unfinished;
       calls = core.calls;
       vault = core.vault;
       size = V.size core.vault;
@@ -46,6 +64,7 @@ impl<V: Vault> Model for Core<V> {
       hub = core.hub;
       caches = core.caches.items;
       capacity = core.capacity;
+      unfinished = core.unfinished;
       calls = core.calls;
       vault = core.vault;
       size = V.size core.vault;
@@ -102,6 +121,7 @@ impl<V: Vault> Core<V> {
             caches,
             vault,
             capacity,
+            unfinished: None,
             calls: 0,
         })
     }

@@ -4,11 +4,11 @@ ghost use Rattle.casper_space.specs.declared.answer.Answer.TheVariants as said;
 ghost use Rattle.casper_model.specs.Growth.{StepAdds};
 ghost use Rattle.casper_model.specs.State.{State};
 ghost use Rattle.casper_core.specs.Decided.{AnswersByTheHub};
-ghost use Rattle.casper_core.specs.Loading.{OnlyReads};
+ghost use Rattle.casper_core.specs.Loading.{OnlyReads, KeepsVault};
 ghost use Rattle.casper_core.specs.Shaped.{StepsInShape};
 ghost use Rattle.casper_core.specs.Sound.{IsSound};
 ghost use Rattle.casper_core.specs.Represents.{Represents};
-ghost use Rattle.casper_core.specs.Stepping.{IsBuilt, Steps, IsUnchanged, completes, counted, HasLegalTrail};
+ghost use Rattle.casper_core.specs.Stepping.{IsBuilt, IsReadOnly, IfWrittenOut, Steps, IsUnchanged, is_fault, completes, counted, HasLegalTrail};
 ghost use Rattle.casper_core.specs.UnheldPages.{UnheldPagesAreRight};
 ghost use Rattle.casper_disk.specs.Disk.{Took};
 
@@ -52,13 +52,17 @@ impl<V: Vault> Core<V> {
         ensures shape { IfOk result (λ answer. StepsInShape event.now answer self.old self.new) }
         ensures failed { IfOk result (λ answer. answer ≡ said.Disk
             → FaultCountRose (V.faults self.old.vault) (V.faults self.new.vault)) }
+        ensures doubt { IfOk result (λ answer. IfWrittenOut event.now (answer ≡ said.Doubt
+            → FaultCountRose (V.faults self.old.vault) (V.faults self.new.vault))) }
         ensures memory { OnErr result (IsUnchanged self.old self.new) }
         ensures stands { IsTrue V.tells
             → OnErr result ((state : State) → Represents state self.old
             → Represents state self.new) }
         ensures calls { self.new.calls ≡ self.old.calls }
-        ensures vault { OnlyReads V.tells V.size V.image V.version V.room V.doubt V.images_now
-            V.moment V.images_since V.faults V.leads_to self.old.vault self.new.vault }
+        ensures reads { IsReadOnly event.now → OnlyReads V.tells V.size V.image V.version V.room
+            V.doubt V.images_now V.moment V.images_since V.faults V.leads_to self.old.vault
+            self.new.vault }
+        ensures vault { KeepsVault V.size V.faults V.leads_to self.old.vault self.new.vault }
         ensures sound { IsSound self.new }
     {
         let _mark: Option<Mark> = None;
@@ -68,21 +72,26 @@ impl<V: Vault> Core<V> {
             Event::Write(who, _, _, _) => self.turn(*who, event),
             Event::Acquire(who, _) => self.turn(*who, event),
             Event::Serve(who) => self.turn(*who, event),
+            Event::Stabilise(who) => self.turn(*who, event),
             Event::Depart(who) => self.depart(*who),
             Event::Vanish(who) => Ok(self.vanish(*who)),
             Event::Lose(who) => self.turn(*who, event),
+            Event::WriteOut(lead) => self.write_out(*lead),
+            Event::Finish(lead) => Ok(self.finish(*lead)),
+            Event::Settle => Ok(self.settle()),
             _ => unreachable!(),
         }
     }
 
-    /// Answers one event. After Memory nothing of the state has changed, but the server may have got frames of pages of the image.
+    /// Answers one event. After Memory nothing of the state has changed, but the server may have got frames of pages of the image. Only
+    /// a write-out and a settle write to the vault, and only their answers and that to a load tell of a fault.
     pub fn step(&mut self, event: &Event) -> Result<Answer, StepFault>
         requires built { IsBuilt event.now }
         ensures step { IsTrue V.tells
             → IfOk result (λ answer. Steps event.now answer self.old self.new) }
         ensures shape { IfOk result (λ answer. StepsInShape event.now answer self.old self.new) }
         ensures decided { IfOk result (λ answer. AnswersByTheHub self.old.hub event.now answer) }
-        ensures fault { IfOk result (λ answer. answer ≡ said.Disk
+        ensures fault { IfOk result (λ answer. IsTrue (is_fault answer)
             → FaultCountRose (V.faults self.old.vault) (V.faults self.new.vault)) }
         ensures never_falls { V.faults self.old.vault ≤ V.faults self.new.vault }
         ensures memory { OnErr result (IsUnchanged self.old self.new) }
@@ -97,11 +106,13 @@ impl<V: Vault> Core<V> {
         ensures legal { (state : State) → Represents state self.new → HasLegalTrail state self.new }
         ensures unheld { (state : State) → Represents state self.new
             → UnheldPagesAreRight state self.new }
-        ensures images { IsTrue V.tells →
+        ensures images { IsReadOnly event.now → IsTrue V.tells →
             Took (V.moment self.old.vault) (V.moment self.new.vault) (V.images_since self.old.vault)
             (V.images_since self.new.vault) (V.images_now self.old.vault) }
-        ensures vault { OnlyReads V.tells V.size V.image V.version V.room V.doubt V.images_now
-            V.moment V.images_since V.faults V.leads_to self.old.vault self.new.vault }
+        ensures reads { IsReadOnly event.now → OnlyReads V.tells V.size V.image V.version V.room
+            V.doubt V.images_now V.moment V.images_since V.faults V.leads_to self.old.vault
+            self.new.vault }
+        ensures vault { KeepsVault V.size V.faults V.leads_to self.old.vault self.new.vault }
         ensures sound { IsSound self.new }
     {
         let _mark: Option<Mark> = None;

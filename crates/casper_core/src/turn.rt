@@ -18,7 +18,8 @@ use casper_trail::Mark;
 use casper_words::{Memory, Who};
 
 impl<V: Vault> Core<V> {
-    /// A turn of a client in which it keeps its cache: a read, a write, an acquire, a serve, or that another declares it lost.
+    /// A turn of a client in which it keeps its cache: a read, a write, an acquire, a serve, a stabilise, or that another
+    /// declares it lost.
     pub(crate) fn turn(&mut self, who: Who, event: &Event) -> Result<Answer, Memory>
         requires turn { IsTurnOf who event.now }
         ensures step { IsTrue V.tells

@@ -1,7 +1,8 @@
-use Rattle.std.proofs.Common.{◌<◌, sym, ap, ◌∙◌, subst, arith, refl}
+use Rattle.std.proofs.Common.{◌≡◌, ◌<◌, false, sym, ap, ◌∙◌, subst, arith, refl}
 use Rattle.std.specs.Prelude.{IsSome}
 use Rattle.std.proofs.Common.{rules}
 use Rattle.std.proofs.lemmas.Option.{none-some}
+use Rattle.casper_trail.specs.Modified.{is_modified}
 use Rattle.casper_trail.specs.TrailView.{commit_count}
 use Rattle.casper_model.specs.Vault.{VaultState}
 use Rattle.casper_cache.specs.Own.{Own}
@@ -12,7 +13,7 @@ use Rattle.casper_hub.specs.Words.{CacheIsRight}
 use Rattle.casper_model.specs.Acquire.{acquire}
 use Rattle.casper_core.specs.Loading.{OnlyReads, OnlyLoads}
 use Rattle.casper_core.proofs.Loads.{pages_loaded, owns_loaded, loads_nothing, most_pass, fewer_unframed, turn_loaded, is_unframed}
-use Rattle.casper_core.proofs.Acquires.{IsBehind, IsTurnBehind, load_of, turn_of, tells_nothing, page_wanted, load_fails, capacity_of, behind_load, leaves_behind, holds_behind, turn_leaves, turn_holds}
+use Rattle.casper_core.proofs.Acquires.{IsBehind, IsTurnBehind, load_of, turn_of, tells_nothing, page_wanted, load_fails, clean_wanted, capacity_of, behind_load, leaves_behind, holds_behind, turn_leaves, turn_holds}
 use Rattle.casper_core.proofs.VaultReads.{reads_nothing, reads_again}
 use Rattle.casper_core.proofs.acquire.acquire.Given as given
 use Rattle.casper_core.proofs.acquire.acquire.Goals as goal
@@ -67,6 +68,8 @@ load-requires g c =
     record {
       range = subst (λ page. page < page_count c.acquire.new.self) wanted.is
           (subst (λ count. wanted.want.page < count) (sym pages) (c.requires.range wanted.want wanted.among));
+      clean = subst (λ page. is_modified c.acquire.new.self.trail page ≡ false) wanted.is
+          (subst (λ (hub : HubView). is_modified hub.trail wanted.want.page ≡ false) (sym load.same) (clean_wanted c.loop-turn.hub inv.behind.sound wanted.want wanted.unframed));
       marks = load.counted ∙ ap (λ (hub : HubView). commit_count hub.trail) (sym load.same);
       size = inv.vault.same_size ∙ c.requires.size ∙ sym pages;
     }
@@ -123,6 +126,7 @@ returns-in_default g c =
       client = ensured.client_after;
       owned = ensured.owned;
       others = ensured.others;
+      still = ensured.still;
       sound = ensured.sound;
       frames = λ base frames words. ensured.frames base frames (subst (CacheIsRight base c.loop-turn.hub) (sym inv.own) words);
       words = λ base frames words. ensured.words base frames (subst (CacheIsRight base c.loop-turn.hub) (sym inv.own) words);

@@ -2,7 +2,7 @@ use Rattle.std.proofs.Common.{sym, ap, ◌∙◌, subst}
 use Rattle.casper_model.specs.Own as machine
 use Rattle.casper_hub.specs.Owned.{own_of}
 use Rattle.casper_hub.proofs.StandsFor.{stands_for}
-use Rattle.casper_core.proofs.Acquires.{serve_capacity}
+use Rattle.casper_core.proofs.Acquires.{serve_capacity, stabilise_capacity}
 use Rattle.casper_core.proofs.Loses.{lost_gives, lost_leaves, lost_holds}
 use Rattle.casper_core.specs.Acting.{IsTurnResult, outside_of}
 use Rattle.casper_core.specs.ClientTurns.{client_turn}
@@ -18,6 +18,17 @@ returns-in_ok-serve-in-Serve-clause-holds g c =
       client = ensured.client_after;
       capacity = ap (λ (own : machine.Own). own.capacity) (ensured.turn.owns (stands_for c.args.hub.now c.requires.sound.stands).shared (stands_for c.args.hub.now c.requires.sound.stands).shows)
           ∙ serve_capacity (stands_for c.args.hub.now c.requires.sound.stands).shared (own_of c.args.cache.now);
+      owns = ensured.owned;
+      words = λ told base stored frames words. ensured.words base frames words;
+    }
+
+pub returns-in_ok-stabilise-in-Stabilise-clause-holds : goal.returns-in_ok-stabilise-in-Stabilise-clause-holds
+returns-in_ok-stabilise-in-Stabilise-clause-holds g c =
+    let ensured = c.in_ok-stabilise-in-Stabilise.ensures in
+    let stands = stands_for c.args.hub.now c.requires.sound.stands in
+    record {
+      client = ensured.client_after;
+      capacity = ap (λ (own : machine.Own). own.capacity) (ensured.turn.owns stands.shared stands.shows) ∙ stabilise_capacity stands.shared (own_of c.args.cache.now);
       owns = ensured.owned;
       words = λ told base stored frames words. ensured.words base frames words;
     }
@@ -39,10 +50,10 @@ returns-in-Lose-clause-does g c = λ told state part.
 
 pub returns-in-Lose-clause-leaves : goal.returns-in-Lose-clause-leaves
 returns-in-Lose-clause-leaves g c =
-    lost_leaves c.args.who g.V.Vault.tells (g.V.Vault.image c.args.vault.now) c.args.hub.now c.args.cache.now c.lose.new.self c.lose.ensures.others
+    lost_leaves c.args.who g.V.Vault.tells (g.V.Vault.image c.args.vault.now) c.args.hub.now c.args.cache.now c.lose.new.self c.lose.ensures.others c.lose.ensures.still
     c.lose.ensures.sound c.lose.ensures.frames
 
 pub returns-in-Lose-clause-holds : goal.returns-in-Lose-clause-holds
 returns-in-Lose-clause-holds g c =
-    lost_holds c.args.who g.V.Vault.tells (g.V.Vault.image c.args.vault.now) c.args.hub.now c.args.cache.now c.lose.new.self c.lose.ensures.others
+    lost_holds c.args.who g.V.Vault.tells (g.V.Vault.image c.args.vault.now) c.args.hub.now c.args.cache.now c.lose.new.self c.lose.ensures.others c.lose.ensures.still
     c.requires.sound c.requires.owns c.requires.client

@@ -26,6 +26,7 @@ returns-in_default-clause-step g c = λ told.
       hub = c.self.inside.hub;
       caches = c.self.inside.caches.items;
       capacity = c.self.inside.capacity;
+      unfinished = c.self.inside.unfinished;
       calls = c.self.inside.calls;
       vault = c.self.inside.vault;
       size = g.V.Vault.size c.self.inside.vault;
@@ -46,6 +47,7 @@ returns-in_default-clause-shape g c =
       hub = c.self.inside.hub;
       caches = c.self.inside.caches.items;
       capacity = c.self.inside.capacity;
+      unfinished = c.self.inside.unfinished;
       calls = c.self.inside.calls;
       vault = c.self.inside.vault;
       size = g.V.Vault.size c.self.inside.vault;
@@ -66,6 +68,7 @@ depart-requires-clause-client g c =
       hub = c.self.inside.hub;
       caches = c.self.inside.caches.items;
       capacity = c.self.inside.capacity;
+      unfinished = c.self.inside.unfinished;
       calls = c.self.inside.calls;
       vault = c.self.inside.vault;
       size = g.V.Vault.size c.self.inside.vault;
@@ -84,6 +87,7 @@ depart-requires-clause-owns g c =
       hub = c.self.inside.hub;
       caches = c.self.inside.caches.items;
       capacity = c.self.inside.capacity;
+      unfinished = c.self.inside.unfinished;
       calls = c.self.inside.calls;
       vault = c.self.inside.vault;
       size = g.V.Vault.size c.self.inside.vault;
@@ -102,6 +106,7 @@ invariant_of-self-in-Ok g c =
       hub = c.self.inside.hub;
       caches = c.self.inside.caches.items;
       capacity = c.self.inside.capacity;
+      unfinished = c.self.inside.unfinished;
       calls = c.self.inside.calls;
       vault = c.self.inside.vault;
       size = g.V.Vault.size c.self.inside.vault;
@@ -116,8 +121,8 @@ invariant_of-self-in-Ok g c =
     let left = ensured.absent c.in-Ok.is in
     let twice = set_again core.caches c.number-place.result (Some c.depart.new.cache) None in
     subst (λ caches. IsSound (record (placed core c.number-place.result c.depart.new.self None core.calls core.vault core.size core.told) { caches = caches })) (sym twice)
-    (sound_left depart of_depart (event.Depart c.args.who) core c.number-place.result c.args.who same client (depart_is c.args.who client) sound c.in-Some.cache found c.depart.new.self c.depart.new.cache c.in_ok-reply.reply ensured.turn left ensured.client_after ensured.others ensured.sound
-    core.calls core.vault core.size core.told refl sound.sure)
+    (sound_left depart of_depart (event.Depart c.args.who) core c.number-place.result c.args.who same client (depart_is c.args.who client) sound c.in-Some.cache found c.depart.new.self c.depart.new.cache c.in_ok-reply.reply ensured.turn left ensured.client_after ensured.others ensured.still ensured.sound
+    core.calls core.vault core.size core.told refl refl)
 
 pub returns-in-Ok-clause-step : goal.returns-in-Ok-clause-step
 returns-in-Ok-clause-step g c = λ told.
@@ -125,6 +130,7 @@ returns-in-Ok-clause-step g c = λ told.
       hub = c.self.inside.hub;
       caches = c.self.inside.caches.items;
       capacity = c.self.inside.capacity;
+      unfinished = c.self.inside.unfinished;
       calls = c.self.inside.calls;
       vault = c.self.inside.vault;
       size = g.V.Vault.size c.self.inside.vault;
@@ -142,7 +148,7 @@ returns-in-Ok-clause-step g c = λ told.
     subst (λ one. Steps (event.Depart c.args.who) answer.Left one (record after { caches = slice_set (slice_set core.caches c.number-place.result (Some c.depart.new.cache)) c.number-place.result None })) c.self.view_is
     (subst (λ caches. Steps (event.Depart c.args.who) answer.Left core (record after { caches = caches })) (sym twice)
     (subst (λ said. Steps (event.Depart c.args.who) said core after) (ap of_depart c.in-Ok.is)
-    (leaving_steps depart of_depart (event.Depart c.args.who) core c.number-place.result c.args.who same client (depart_is c.args.who client) sound c.in-Some.cache found c.depart.new.self c.depart.new.cache c.in_ok-reply.reply ensured.turn left ensured.client_after ensured.others ensured.sound
+    (leaving_steps depart of_depart (event.Depart c.args.who) core c.number-place.result c.args.who same client (depart_is c.args.who client) sound c.in-Some.cache found c.depart.new.self c.depart.new.cache c.in_ok-reply.reply ensured.turn left ensured.client_after ensured.others ensured.still ensured.sound
     core.calls core.vault core.size core.told
     (λ state shape. departed_own state.shared (own_of c.in-Some.cache) (up_as_it_departs state.shared (own_of c.in-Some.cache) (sym c.in-Ok.is ∙ ensured.turn.replies state.shared shape.shared))) ensured.frames refl)))
 
@@ -152,6 +158,7 @@ returns-in-Ok-clause-shape g c =
       hub = c.self.inside.hub;
       caches = c.self.inside.caches.items;
       capacity = c.self.inside.capacity;
+      unfinished = c.self.inside.unfinished;
       calls = c.self.inside.calls;
       vault = c.self.inside.vault;
       size = g.V.Vault.size c.self.inside.vault;
@@ -169,7 +176,7 @@ returns-in-Ok-clause-shape g c =
     subst (λ one. StepsInShape (event.Depart c.args.who) answer.Left one (record after { caches = slice_set (slice_set core.caches c.number-place.result (Some c.depart.new.cache)) c.number-place.result None })) c.self.view_is
     (subst (λ caches. StepsInShape (event.Depart c.args.who) answer.Left core (record after { caches = caches })) (sym twice)
     (subst (λ said. StepsInShape (event.Depart c.args.who) said core after) (ap of_depart c.in-Ok.is)
-    (leaving_made depart of_depart (event.Depart c.args.who) core c.number-place.result c.args.who same client (depart_is c.args.who client) sound c.in-Some.cache found c.depart.new.self c.depart.new.cache c.in_ok-reply.reply ensured.turn left ensured.client_after ensured.others ensured.sound
+    (leaving_made depart of_depart (event.Depart c.args.who) core c.number-place.result c.args.who same client (depart_is c.args.who client) sound c.in-Some.cache found c.depart.new.self c.depart.new.cache c.in_ok-reply.reply ensured.turn left ensured.client_after ensured.others ensured.still ensured.sound
     core.calls core.vault core.size core.told
     (λ state shape. departed_own state.shared (own_of c.in-Some.cache) (up_as_it_departs state.shared (own_of c.in-Some.cache) (sym c.in-Ok.is ∙ ensured.turn.replies state.shared shape.shared))))))
 
@@ -179,6 +186,7 @@ returns-in-Ok-clause-sound g c =
       hub = c.self.inside.hub;
       caches = c.self.inside.caches.items;
       capacity = c.self.inside.capacity;
+      unfinished = c.self.inside.unfinished;
       calls = c.self.inside.calls;
       vault = c.self.inside.vault;
       size = g.V.Vault.size c.self.inside.vault;
@@ -193,8 +201,8 @@ returns-in-Ok-clause-sound g c =
     let left = ensured.absent c.in-Ok.is in
     let twice = set_again core.caches c.number-place.result (Some c.depart.new.cache) None in
     subst (λ caches. IsSound (record (placed core c.number-place.result c.depart.new.self None core.calls core.vault core.size core.told) { caches = caches })) (sym twice)
-    (sound_left depart of_depart (event.Depart c.args.who) core c.number-place.result c.args.who same client (depart_is c.args.who client) sound c.in-Some.cache found c.depart.new.self c.depart.new.cache c.in_ok-reply.reply ensured.turn left ensured.client_after ensured.others ensured.sound
-    core.calls core.vault core.size core.told refl sound.sure)
+    (sound_left depart of_depart (event.Depart c.args.who) core c.number-place.result c.args.who same client (depart_is c.args.who client) sound c.in-Some.cache found c.depart.new.self c.depart.new.cache c.in_ok-reply.reply ensured.turn left ensured.client_after ensured.others ensured.still ensured.sound
+    core.calls core.vault core.size core.told refl refl)
 
 pub invariant_of-self-in_default-reply : goal.invariant_of-self-in_default-reply
 invariant_of-self-in_default-reply g c =
@@ -202,6 +210,7 @@ invariant_of-self-in_default-reply g c =
       hub = c.self.inside.hub;
       caches = c.self.inside.caches.items;
       capacity = c.self.inside.capacity;
+      unfinished = c.self.inside.unfinished;
       calls = c.self.inside.calls;
       vault = c.self.inside.vault;
       size = g.V.Vault.size c.self.inside.vault;
@@ -217,6 +226,7 @@ invariant_of-self-in_default-reply g c =
     let leaves : KeepsHubRight c.args.who g.V.Vault.tells core.told.image core.hub c.in-Some.cache c.depart.new.self = record {
       sound = ensured.sound;
       others = ensured.others;
+      still = ensured.still;
       frames = λ told base stored frames words. ensured.frames base frames words;
     } in
     let holds : Holds c.args.who g.V.Vault.tells core.told.image core.hub c.in-Some.cache c.depart.new.self c.depart.new.cache = record {
@@ -226,7 +236,7 @@ invariant_of-self-in_default-reply g c =
       words = λ told base stored frames words. ensured.words base frames words;
     } in
     sound_stayed depart of_depart (event.Depart c.args.who) core c.number-place.result c.args.who same client (depart_is c.args.who client) sound c.in-Some.cache found c.depart.new.self c.depart.new.cache c.in_ok-reply.reply ensured.turn
-    g.V.Vault.tells leaves holds core.calls core.vault core.size core.told refl sound.sure
+    g.V.Vault.tells leaves holds core.calls core.vault core.size core.told refl refl
 
 pub returns-clause-step : goal.returns-clause-step
 returns-clause-step g c = λ told.
@@ -234,6 +244,7 @@ returns-clause-step g c = λ told.
       hub = c.self.inside.hub;
       caches = c.self.inside.caches.items;
       capacity = c.self.inside.capacity;
+      unfinished = c.self.inside.unfinished;
       calls = c.self.inside.calls;
       vault = c.self.inside.vault;
       size = g.V.Vault.size c.self.inside.vault;
@@ -249,6 +260,7 @@ returns-clause-step g c = λ told.
     let leaves : KeepsHubRight c.args.who g.V.Vault.tells core.told.image core.hub c.in-Some.cache c.depart.new.self = record {
       sound = ensured.sound;
       others = ensured.others;
+      still = ensured.still;
       frames = λ told base stored frames words. ensured.frames base frames words;
     } in
     let holds : Holds c.args.who g.V.Vault.tells core.told.image core.hub c.in-Some.cache c.depart.new.self c.depart.new.cache = record {
@@ -268,6 +280,7 @@ returns-clause-shape g c =
       hub = c.self.inside.hub;
       caches = c.self.inside.caches.items;
       capacity = c.self.inside.capacity;
+      unfinished = c.self.inside.unfinished;
       calls = c.self.inside.calls;
       vault = c.self.inside.vault;
       size = g.V.Vault.size c.self.inside.vault;
@@ -283,6 +296,7 @@ returns-clause-shape g c =
     let leaves : KeepsHubRight c.args.who g.V.Vault.tells core.told.image core.hub c.in-Some.cache c.depart.new.self = record {
       sound = ensured.sound;
       others = ensured.others;
+      still = ensured.still;
       frames = λ told base stored frames words. ensured.frames base frames words;
     } in
     let holds : Holds c.args.who g.V.Vault.tells core.told.image core.hub c.in-Some.cache c.depart.new.self c.depart.new.cache = record {
@@ -302,6 +316,7 @@ returns-clause-sound g c =
       hub = c.self.inside.hub;
       caches = c.self.inside.caches.items;
       capacity = c.self.inside.capacity;
+      unfinished = c.self.inside.unfinished;
       calls = c.self.inside.calls;
       vault = c.self.inside.vault;
       size = g.V.Vault.size c.self.inside.vault;
@@ -317,6 +332,7 @@ returns-clause-sound g c =
     let leaves : KeepsHubRight c.args.who g.V.Vault.tells core.told.image core.hub c.in-Some.cache c.depart.new.self = record {
       sound = ensured.sound;
       others = ensured.others;
+      still = ensured.still;
       frames = λ told base stored frames words. ensured.frames base frames words;
     } in
     let holds : Holds c.args.who g.V.Vault.tells core.told.image core.hub c.in-Some.cache c.depart.new.self c.depart.new.cache = record {
@@ -326,4 +342,4 @@ returns-clause-sound g c =
       words = λ told base stored frames words. ensured.words base frames words;
     } in
     sound_stayed depart of_depart (event.Depart c.args.who) core c.number-place.result c.args.who same client (depart_is c.args.who client) sound c.in-Some.cache found c.depart.new.self c.depart.new.cache c.in_ok-reply.reply ensured.turn
-    g.V.Vault.tells leaves holds core.calls core.vault core.size core.told refl sound.sure
+    g.V.Vault.tells leaves holds core.calls core.vault core.size core.told refl refl

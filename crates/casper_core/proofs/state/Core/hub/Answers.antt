@@ -12,6 +12,7 @@ returns-clause-shape g c =
       hub = c.self.inside.hub;
       caches = c.self.inside.caches.items;
       capacity = c.self.inside.capacity;
+      unfinished = c.self.inside.unfinished;
       calls = c.self.inside.calls;
       vault = c.self.inside.vault;
       size = g.V.Vault.size c.self.inside.vault;

@@ -1,4 +1,5 @@
-use Rattle.std.proofs.Common.{sym, ◌∙◌, subst}
+use Rattle.std.proofs.Common.{refl, sym, ◌∙◌, subst}
+use Rattle.std.specs.Prelude.{None}
 use Rattle.casper_model.specs.Shared.{new_shared}
 use Rattle.casper_hub.specs.Shows.{Shows}
 use Rattle.casper_core.specs.CoreView.{CoreView, told_by}
@@ -11,12 +12,13 @@ invariant_of-result g c =
       hub = c.in-Ok.hub;
       caches = c.in-Ok-no_caches.caches.items;
       capacity = c.args.capacity;
+      unfinished = None;
       calls = 0;
       vault = c.args.vault;
       size = g.V.Vault.size c.args.vault;
       told = told_by g.V.Vault.image g.V.Vault.version g.V.Vault.room g.V.Vault.doubt c.args.vault;
     } in
-    sound_new core c.in-Ok.ensures.sound c.in-Ok-no_caches.ensures c.in-Ok.ensures.absent (sym c.pages.ensures ∙ sym c.in-Ok.ensures.pages) c.requires.least c.requires.most c.requires.sure
+    sound_new core c.in-Ok.ensures.sound c.in-Ok-no_caches.ensures c.in-Ok.ensures.absent (sym c.pages.ensures ∙ sym c.in-Ok.ensures.pages) refl c.requires.least c.requires.most c.requires.sure
 
 pub returns-clause-sound : goal.returns-clause-sound
 returns-clause-sound g c =
@@ -24,12 +26,13 @@ returns-clause-sound g c =
       hub = c.in-Ok.hub;
       caches = c.in-Ok-no_caches.caches.items;
       capacity = c.args.capacity;
+      unfinished = None;
       calls = 0;
       vault = c.args.vault;
       size = g.V.Vault.size c.args.vault;
       told = told_by g.V.Vault.image g.V.Vault.version g.V.Vault.room g.V.Vault.doubt c.args.vault;
     } in
-    sound_new core c.in-Ok.ensures.sound c.in-Ok-no_caches.ensures c.in-Ok.ensures.absent (sym c.pages.ensures ∙ sym c.in-Ok.ensures.pages) c.requires.least c.requires.most c.requires.sure
+    sound_new core c.in-Ok.ensures.sound c.in-Ok-no_caches.ensures c.in-Ok.ensures.absent (sym c.pages.ensures ∙ sym c.in-Ok.ensures.pages) refl c.requires.least c.requires.most c.requires.sure
 
 pub returns-clause-stands : goal.returns-clause-stands
 returns-clause-stands g c = λ told.
@@ -37,14 +40,15 @@ returns-clause-stands g c = λ told.
       hub = c.in-Ok.hub;
       caches = c.in-Ok-no_caches.caches.items;
       capacity = c.args.capacity;
+      unfinished = None;
       calls = 0;
       vault = c.args.vault;
       size = g.V.Vault.size c.args.vault;
       told = told_by g.V.Vault.image g.V.Vault.version g.V.Vault.room g.V.Vault.doubt c.args.vault;
     } in
-    stands_new core c.in-Ok.ensures.sound c.in-Ok-no_caches.ensures c.in-Ok.ensures.absent (sym c.pages.ensures ∙ sym c.in-Ok.ensures.pages) c.args.limit
-    (subst (λ pages. Shows (new_shared pages c.args.limit) c.in-Ok.hub) c.pages.ensures c.in-Ok.ensures.shows) c.in-Ok.ensures.frames c.in-Ok.ensures.trail
-    (λ page below. g.met.V.Vault.filled c.args.vault page told below)
+    stands_new core c.in-Ok.ensures.sound c.in-Ok-no_caches.ensures c.in-Ok.ensures.absent (sym c.pages.ensures ∙ sym c.in-Ok.ensures.pages) refl c.args.limit
+    (subst (λ pages. Shows (new_shared pages c.args.limit) c.in-Ok.hub) c.pages.ensures c.in-Ok.ensures.shows) c.in-Ok.ensures.frames c.requires.sure
+    (record { count = sym (g.met.V.Vault.sized c.args.vault told); words = λ page below. g.met.V.Vault.filled c.args.vault page told below })
 
 pub returns-clause-shape : goal.returns-clause-shape
 returns-clause-shape g c =
@@ -52,10 +56,11 @@ returns-clause-shape g c =
       hub = c.in-Ok.hub;
       caches = c.in-Ok-no_caches.caches.items;
       capacity = c.args.capacity;
+      unfinished = None;
       calls = 0;
       vault = c.args.vault;
       size = g.V.Vault.size c.args.vault;
       told = told_by g.V.Vault.image g.V.Vault.version g.V.Vault.room g.V.Vault.doubt c.args.vault;
     } in
-    shape_new core c.in-Ok.ensures.sound c.in-Ok-no_caches.ensures c.in-Ok.ensures.absent (sym c.pages.ensures ∙ sym c.in-Ok.ensures.pages) c.args.limit
+    shape_new core c.in-Ok.ensures.sound c.in-Ok-no_caches.ensures c.in-Ok.ensures.absent (sym c.pages.ensures ∙ sym c.in-Ok.ensures.pages) refl c.args.limit
     (subst (λ pages. Shows (new_shared pages c.args.limit) c.in-Ok.hub) c.pages.ensures c.in-Ok.ensures.shows)

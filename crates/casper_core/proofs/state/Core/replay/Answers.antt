@@ -1,10 +1,10 @@
 use Rattle.std.proofs.Common.{◌≡◌, ◌<◌, ◌++◌, [], ◌∷◌, length, sym, ap, ◌∙◌, subst, refl, arith, rules, append-nil, append_assoc, length-append}
 use Rattle.std.specs.Prelude.{slice_index_or}
-use Rattle.casper_core.specs.Loading.{OnlyReads}
-use Rattle.casper_core.proofs.ReplayRuns.{run_nothing, run_more, run_still, of_ok, rose_more, count_more}
+use Rattle.casper_core.specs.Loading.{OnlyReads, KeepsVault}
+use Rattle.casper_core.proofs.ReplayRuns.{contains_at, run_nothing, run_more, run_still, of_ok, rose_more, count_more}
 use Rattle.casper_core.proofs.ShapedRuns.{made_nothing, made_more, made_still}
 use Rattle.casper_core.proofs.StepParts.{legal_of, unheld_of}
-use Rattle.casper_core.proofs.VaultReads.{reads_nothing, reads_again}
+use Rattle.casper_core.proofs.VaultReads.{reads_nothing, reads_again, keeps_nothing, keeps_again}
 use Rattle.casper_core.proofs.state.Core.replay.Given as given
 use Rattle.casper_core.proofs.state.Core.replay.Goals as goal
 
@@ -15,6 +15,11 @@ again : (g : given.Over) (first second third : g.row.V.Denot)
 again g first second third =
     reads_again g.V.Vault.tells g.V.Vault.size g.V.Vault.image g.V.Vault.version g.V.Vault.room g.V.Vault.doubt g.V.Vault.images_now g.V.Vault.moment g.V.Vault.images_since g.V.Vault.faults g.V.Vault.leads_to
     g.met.V.Vault.now_counts g.met.V.Vault.only_now g.met.V.Vault.earlier_counts g.met.V.Vault.leads_to_itself g.met.V.Vault.leads_on first second third
+
+keeps : (g : given.Over) (first second third : g.row.V.Denot)
+    → KeepsVault g.V.Vault.size g.V.Vault.faults g.V.Vault.leads_to first second → KeepsVault g.V.Vault.size g.V.Vault.faults g.V.Vault.leads_to second third
+    → KeepsVault g.V.Vault.size g.V.Vault.faults g.V.Vault.leads_to first third
+keeps g first second third = keeps_again g.V.Vault.size g.V.Vault.faults g.V.Vault.leads_to g.met.V.Vault.leads_to_itself g.met.V.Vault.leads_on first second third
 
 pub loop-event-init : goal.loop-event-init
 loop-event-init g c = record {
@@ -27,8 +32,9 @@ loop-event-init g c = record {
     omega arith,
     omega (arith, c.calls-calls.ensures.calls, c.calls-calls.type_inv),
   );
-  vault = reads_nothing g.V.Vault.tells g.V.Vault.size g.V.Vault.image g.V.Vault.version g.V.Vault.room g.V.Vault.doubt g.V.Vault.images_now g.V.Vault.moment g.V.Vault.images_since g.V.Vault.faults g.V.Vault.leads_to
+  reads = λ quiet. reads_nothing g.V.Vault.tells g.V.Vault.size g.V.Vault.image g.V.Vault.version g.V.Vault.room g.V.Vault.doubt g.V.Vault.images_now g.V.Vault.moment g.V.Vault.images_since g.V.Vault.faults g.V.Vault.leads_to
       g.met.V.Vault.now_counts g.met.V.Vault.only_now g.met.V.Vault.earlier_counts g.met.V.Vault.leads_to_itself g.met.V.Vault.leads_on c.args.self.now.vault;
+  vault = keeps_nothing g.V.Vault.size g.V.Vault.faults g.V.Vault.leads_to g.met.V.Vault.leads_to_itself g.met.V.Vault.leads_on c.args.self.now.vault;
   sound = c.calls-calls.ensures.sound;
 }
 
@@ -52,7 +58,9 @@ loop-event-preserved g c =
         rose_more said answer (g.V.Vault.faults c.args.self.now.vault) (g.V.Vault.faults c.loop-event.self.vault) (g.V.Vault.faults c.step.new.self.vault) inv.run.5 ensured.never_falls ensured.fault,
         count_more c.args.events.now said c.event-item.result answer c.args.self.now.calls c.loop-event.self.calls c.step.new.self.calls below there inv.run.6 ensured.calls,
       );
-      vault = again g c.args.self.now.vault c.loop-event.self.vault c.step.new.self.vault inv.vault ensured.vault;
+      reads = λ quiet. again g c.args.self.now.vault c.loop-event.self.vault c.step.new.self.vault (inv.reads quiet)
+          (ensured.reads (quiet c.event-item.result (contains_at c.args.events.now (length said) c.event-item.result below there)));
+      vault = keeps g c.args.self.now.vault c.loop-event.self.vault c.step.new.self.vault inv.vault ensured.vault;
       sound = ensured.sound;
     }
 
@@ -75,7 +83,15 @@ returns-in_err-answer-clause-run g c =
     )
 
 pub returns-in_err-answer-clause-vault : goal.returns-in_err-answer-clause-vault
-returns-in_err-answer-clause-vault g c = again g c.args.self.now.vault c.loop-event.self.vault c.step.new.self.vault c.loop-event.invariant.vault c.in_err-answer.ensures.vault
+returns-in_err-answer-clause-vault g c = keeps g c.args.self.now.vault c.loop-event.self.vault c.step.new.self.vault c.loop-event.invariant.vault c.in_err-answer.ensures.vault
+
+pub returns-in_err-answer-clause-reads : goal.returns-in_err-answer-clause-reads
+returns-in_err-answer-clause-reads g c = λ quiet.
+    let inv = c.loop-event.invariant in
+    let below : length inv.run.0 < length c.args.events.now = omega (arith, inv.run.2, c.loop-event-test.true) in
+    let there = subst (λ index. c.event-item.result ≡ slice_index_or c.args.events.now index c.event-item.result) (sym inv.run.2) c.event-item.is in
+    again g c.args.self.now.vault c.loop-event.self.vault c.step.new.self.vault (inv.reads quiet)
+    (c.in_err-answer.ensures.reads (quiet c.event-item.result (contains_at c.args.events.now (length inv.run.0) c.event-item.result below there)))
 
 pub returns-in_err-reserve-clause-legal : goal.returns-in_err-reserve-clause-legal
 returns-in_err-reserve-clause-legal g c = λ state stands. legal_of state c.loop-event.self stands
@@ -84,7 +100,7 @@ pub returns-clause-legal : goal.returns-clause-legal
 returns-clause-legal g c = λ state stands. legal_of state c.loop-event.self stands
 
 pub returns-in_err-reserve-clause-unheld : goal.returns-in_err-reserve-clause-unheld
-returns-in_err-reserve-clause-unheld g c = λ state stands. unheld_of state c.loop-event.self stands
+returns-in_err-reserve-clause-unheld g c = λ state stands. unheld_of state c.loop-event.self c.loop-event.invariant.sound stands
 
 pub returns-clause-unheld : goal.returns-clause-unheld
-returns-clause-unheld g c = λ state stands. unheld_of state c.loop-event.self stands
+returns-clause-unheld g c = λ state stands. unheld_of state c.loop-event.self c.loop-event.invariant.sound stands

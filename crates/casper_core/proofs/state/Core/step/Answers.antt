@@ -1,10 +1,11 @@
 use Rattle.std.proofs.Common.{sym, subst}
 use Rattle.casper_model.specs.Growth.{StepAdds}
+use Rattle.casper_words.specs.Count.{FaultCountRose}
 use Rattle.casper_core.specs.CoreView.{CoreView, told_by}
 use Rattle.casper_core.specs.Shaped.{IsMade}
 use Rattle.casper_core.specs.Sound.{IsSound}
 use Rattle.casper_core.specs.Stepping.{IsAnswered}
-use Rattle.casper_core.proofs.DecidedTurns.{decides}
+use Rattle.casper_core.proofs.DecidedTurns.{decides, faulted}
 use Rattle.casper_core.proofs.StepParts.{legal_of, unheld_of, adds_of, sound_counted, answered_counted, made_counted}
 use Rattle.casper_core.proofs.state.Core.step.Goals as goal
 
@@ -20,6 +21,7 @@ invariant_of-self g c =
       hub = c.self.inside.hub;
       caches = c.self.inside.caches.items;
       capacity = c.self.inside.capacity;
+      unfinished = c.self.inside.unfinished;
       calls = c.self.inside.calls;
       vault = c.self.inside.vault;
       size = g.V.Vault.size c.self.inside.vault;
@@ -34,6 +36,7 @@ returns-clause-step g c = λ told state stands.
       hub = c.self.inside.hub;
       caches = c.self.inside.caches.items;
       capacity = c.self.inside.capacity;
+      unfinished = c.self.inside.unfinished;
       calls = c.self.inside.calls;
       vault = c.self.inside.vault;
       size = g.V.Vault.size c.self.inside.vault;
@@ -48,6 +51,7 @@ returns-clause-shape g c = λ state shape.
       hub = c.self.inside.hub;
       caches = c.self.inside.caches.items;
       capacity = c.self.inside.capacity;
+      unfinished = c.self.inside.unfinished;
       calls = c.self.inside.calls;
       vault = c.self.inside.vault;
       size = g.V.Vault.size c.self.inside.vault;
@@ -65,6 +69,7 @@ returns-clause-sound g c =
       hub = c.self.inside.hub;
       caches = c.self.inside.caches.items;
       capacity = c.self.inside.capacity;
+      unfinished = c.self.inside.unfinished;
       calls = c.self.inside.calls;
       vault = c.self.inside.vault;
       size = g.V.Vault.size c.self.inside.vault;
@@ -74,13 +79,13 @@ returns-clause-sound g c =
     sound_counted core c.saturating_add-self-inside.result sound
 
 pub returns-in_err-answer-clause-unheld : goal.returns-in_err-answer-clause-unheld
-returns-in_err-answer-clause-unheld g c = λ state stands. unheld_of state c.carry_out.new.self stands
+returns-in_err-answer-clause-unheld g c = λ state stands. unheld_of state c.carry_out.new.self c.in_err-answer.ensures.sound stands
 
 pub returns-then-not-is_call_made-clause-unheld : goal.returns-then-not-is_call_made-clause-unheld
-returns-then-not-is_call_made-clause-unheld g c = λ state stands. unheld_of state c.carry_out.new.self stands
+returns-then-not-is_call_made-clause-unheld g c = λ state stands. unheld_of state c.carry_out.new.self c.in_ok-answer.ensures.sound stands
 
 pub returns-clause-unheld : goal.returns-clause-unheld
-returns-clause-unheld g c = λ state stands. unheld_of state _ stands
+returns-clause-unheld g c = λ state stands. unheld_of state _ (returns-clause-sound g c) stands
 
 pub returns-then-not-is_call_made-clause-adds : goal.returns-then-not-is_call_made-clause-adds
 returns-then-not-is_call_made-clause-adds g c = λ told.
@@ -98,3 +103,9 @@ returns-then-not-is_call_made-clause-decided g c =
 pub returns-clause-decided : goal.returns-clause-decided
 returns-clause-decided g c =
     decides c.args.self.now c.carry_out.new.self c.args.event.now c.in_ok-answer.answer c.calls-calls.ensures.sound c.requires.built c.in_ok-answer.ensures.shape
+
+pub returns-then-not-is_call_made-clause-fault : goal.returns-then-not-is_call_made-clause-fault
+returns-then-not-is_call_made-clause-fault g c =
+    faulted c.args.self.now c.carry_out.new.self c.args.event.now c.in_ok-answer.answer
+    (FaultCountRose (g.V.Vault.faults c.args.self.now.vault) (g.V.Vault.faults c.carry_out.new.self.vault)) c.calls-calls.ensures.sound c.requires.built c.in_ok-answer.ensures.shape
+    c.in_ok-answer.ensures.failed c.in_ok-answer.ensures.doubt

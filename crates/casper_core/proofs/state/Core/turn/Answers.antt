@@ -22,6 +22,7 @@ entered g c = record {
   hub = c.self.inside.hub;
   caches = c.self.inside.caches.items;
   capacity = c.self.inside.capacity;
+  unfinished = c.self.inside.unfinished;
   calls = c.self.inside.calls;
   vault = c.self.inside.vault;
   size = g.V.Vault.size c.self.inside.vault;
@@ -34,6 +35,7 @@ returns-in_default-clause-step g c = λ told.
       hub = c.self.inside.hub;
       caches = c.self.inside.caches.items;
       capacity = c.self.inside.capacity;
+      unfinished = c.self.inside.unfinished;
       calls = c.self.inside.calls;
       vault = c.self.inside.vault;
       size = g.V.Vault.size c.self.inside.vault;
@@ -53,6 +55,7 @@ returns-in_default-clause-shape g c =
       hub = c.self.inside.hub;
       caches = c.self.inside.caches.items;
       capacity = c.self.inside.capacity;
+      unfinished = c.self.inside.unfinished;
       calls = c.self.inside.calls;
       vault = c.self.inside.vault;
       size = g.V.Vault.size c.self.inside.vault;
@@ -88,6 +91,7 @@ invariant_of-self-2 g c =
       hub = c.self.inside.hub;
       caches = c.self.inside.caches.items;
       capacity = c.self.inside.capacity;
+      unfinished = c.self.inside.unfinished;
       calls = c.self.inside.calls;
       vault = c.self.inside.vault;
       size = g.V.Vault.size c.self.inside.vault;
@@ -99,7 +103,7 @@ invariant_of-self-2 g c =
     let found = found_at core.caches c.number.result c.args.who c.index_mut.result.now (Some c.in-Some.cache) c.number.ensures.number below c.index_mut.ensures.value c.in-Some.is in
     sound_turn core c.number.result c.args.who c.number.ensures.number client sound c.in-Some.cache found g.V.Vault.tells c.act.new.hub c.act.new.cache c.self.inside.calls c.act.new.vault
     (g.V.Vault.size c.act.new.vault) (told_by g.V.Vault.image g.V.Vault.version g.V.Vault.room g.V.Vault.doubt c.act.new.vault) c.act.ensures.leaves c.act.ensures.holds
-    c.act.ensures.vault.same_size (c.act.ensures.vault.sure sound.sure)
+    c.act.ensures.vault.same_size c.act.ensures.vault.same_doubt
 
 pub returns-clause-sound : goal.returns-clause-sound
 returns-clause-sound g c =
@@ -107,6 +111,7 @@ returns-clause-sound g c =
       hub = c.self.inside.hub;
       caches = c.self.inside.caches.items;
       capacity = c.self.inside.capacity;
+      unfinished = c.self.inside.unfinished;
       calls = c.self.inside.calls;
       vault = c.self.inside.vault;
       size = g.V.Vault.size c.self.inside.vault;
@@ -118,7 +123,7 @@ returns-clause-sound g c =
     let found = found_at core.caches c.number.result c.args.who c.index_mut.result.now (Some c.in-Some.cache) c.number.ensures.number below c.index_mut.ensures.value c.in-Some.is in
     sound_turn core c.number.result c.args.who c.number.ensures.number client sound c.in-Some.cache found g.V.Vault.tells c.act.new.hub c.act.new.cache c.self.inside.calls c.act.new.vault
     (g.V.Vault.size c.act.new.vault) (told_by g.V.Vault.image g.V.Vault.version g.V.Vault.room g.V.Vault.doubt c.act.new.vault) c.act.ensures.leaves c.act.ensures.holds
-    c.act.ensures.vault.same_size (c.act.ensures.vault.sure sound.sure)
+    c.act.ensures.vault.same_size c.act.ensures.vault.same_doubt
 
 pub returns-clause-step : goal.returns-clause-step
 returns-clause-step g c = λ told.
@@ -126,6 +131,7 @@ returns-clause-step g c = λ told.
       hub = c.self.inside.hub;
       caches = c.self.inside.caches.items;
       capacity = c.self.inside.capacity;
+      unfinished = c.self.inside.unfinished;
       calls = c.self.inside.calls;
       vault = c.self.inside.vault;
       size = g.V.Vault.size c.self.inside.vault;
@@ -150,6 +156,7 @@ returns-clause-shape g c =
       hub = c.self.inside.hub;
       caches = c.self.inside.caches.items;
       capacity = c.self.inside.capacity;
+      unfinished = c.self.inside.unfinished;
       calls = c.self.inside.calls;
       vault = c.self.inside.vault;
       size = g.V.Vault.size c.self.inside.vault;
@@ -174,6 +181,7 @@ returns-clause-stands g c = λ told.
       hub = c.self.inside.hub;
       caches = c.self.inside.caches.items;
       capacity = c.self.inside.capacity;
+      unfinished = c.self.inside.unfinished;
       calls = c.self.inside.calls;
       vault = c.self.inside.vault;
       size = g.V.Vault.size c.self.inside.vault;

@@ -21,6 +21,7 @@ returns-in_default-clause-step g c = λ told.
       hub = c.self.inside.hub;
       caches = c.self.inside.caches.items;
       capacity = c.self.inside.capacity;
+      unfinished = c.self.inside.unfinished;
       calls = c.self.inside.calls;
       vault = c.self.inside.vault;
       size = g.V.Vault.size c.self.inside.vault;
@@ -41,6 +42,7 @@ returns-in_default-clause-shape g c =
       hub = c.self.inside.hub;
       caches = c.self.inside.caches.items;
       capacity = c.self.inside.capacity;
+      unfinished = c.self.inside.unfinished;
       calls = c.self.inside.calls;
       vault = c.self.inside.vault;
       size = g.V.Vault.size c.self.inside.vault;
@@ -61,6 +63,7 @@ vanish-loss-requires-clause-client g c =
       hub = c.self.inside.hub;
       caches = c.self.inside.caches.items;
       capacity = c.self.inside.capacity;
+      unfinished = c.self.inside.unfinished;
       calls = c.self.inside.calls;
       vault = c.self.inside.vault;
       size = g.V.Vault.size c.self.inside.vault;
@@ -79,6 +82,7 @@ vanish-loss-requires-clause-owns g c =
       hub = c.self.inside.hub;
       caches = c.self.inside.caches.items;
       capacity = c.self.inside.capacity;
+      unfinished = c.self.inside.unfinished;
       calls = c.self.inside.calls;
       vault = c.self.inside.vault;
       size = g.V.Vault.size c.self.inside.vault;
@@ -97,6 +101,7 @@ invariant_of-self-2 g c =
       hub = c.self.inside.hub;
       caches = c.self.inside.caches.items;
       capacity = c.self.inside.capacity;
+      unfinished = c.self.inside.unfinished;
       calls = c.self.inside.calls;
       vault = c.self.inside.vault;
       size = g.V.Vault.size c.self.inside.vault;
@@ -111,8 +116,8 @@ invariant_of-self-2 g c =
     let left = ensured.absent in
     let twice = set_again core.caches c.number-place.result (Some c.vanish-loss.new.cache) None in
     subst (λ caches. IsSound (record (placed core c.number-place.result c.vanish-loss.new.self None core.calls core.vault core.size core.told) { caches = caches })) (sym twice)
-    (sound_left vanish of_vanish (event.Vanish c.args.who) core c.number-place.result c.args.who same client (vanish_is c.args.who client) sound c.in-Some.cache found c.vanish-loss.new.self c.vanish-loss.new.cache c.vanish-loss.result ensured.turn left ensured.client_after ensured.others ensured.sound
-    core.calls core.vault core.size core.told refl sound.sure)
+    (sound_left vanish of_vanish (event.Vanish c.args.who) core c.number-place.result c.args.who same client (vanish_is c.args.who client) sound c.in-Some.cache found c.vanish-loss.new.self c.vanish-loss.new.cache c.vanish-loss.result ensured.turn left ensured.client_after ensured.others ensured.still ensured.sound
+    core.calls core.vault core.size core.told refl refl)
 
 pub returns-clause-step : goal.returns-clause-step
 returns-clause-step g c = λ told.
@@ -120,6 +125,7 @@ returns-clause-step g c = λ told.
       hub = c.self.inside.hub;
       caches = c.self.inside.caches.items;
       capacity = c.self.inside.capacity;
+      unfinished = c.self.inside.unfinished;
       calls = c.self.inside.calls;
       vault = c.self.inside.vault;
       size = g.V.Vault.size c.self.inside.vault;
@@ -137,7 +143,7 @@ returns-clause-step g c = λ told.
     subst (λ one. Steps (event.Vanish c.args.who) c.answer_of_vanish.result one (record after { caches = slice_set (slice_set core.caches c.number-place.result (Some c.vanish-loss.new.cache)) c.number-place.result None })) c.self.view_is
     (subst (λ caches. Steps (event.Vanish c.args.who) c.answer_of_vanish.result core (record after { caches = caches })) (sym twice)
     (subst (λ said. Steps (event.Vanish c.args.who) said core after) (sym c.answer_of_vanish.ensures)
-    (leaving_steps vanish of_vanish (event.Vanish c.args.who) core c.number-place.result c.args.who same client (vanish_is c.args.who client) sound c.in-Some.cache found c.vanish-loss.new.self c.vanish-loss.new.cache c.vanish-loss.result ensured.turn left ensured.client_after ensured.others ensured.sound
+    (leaving_steps vanish of_vanish (event.Vanish c.args.who) core c.number-place.result c.args.who same client (vanish_is c.args.who client) sound c.in-Some.cache found c.vanish-loss.new.self c.vanish-loss.new.cache c.vanish-loss.result ensured.turn left ensured.client_after ensured.others ensured.still ensured.sound
     core.calls core.vault core.size core.told
     (λ state shape. refl) (λ base frames words. ensured.frames base frames) refl)))
 
@@ -147,6 +153,7 @@ returns-clause-shape g c =
       hub = c.self.inside.hub;
       caches = c.self.inside.caches.items;
       capacity = c.self.inside.capacity;
+      unfinished = c.self.inside.unfinished;
       calls = c.self.inside.calls;
       vault = c.self.inside.vault;
       size = g.V.Vault.size c.self.inside.vault;
@@ -164,7 +171,7 @@ returns-clause-shape g c =
     subst (λ one. StepsInShape (event.Vanish c.args.who) c.answer_of_vanish.result one (record after { caches = slice_set (slice_set core.caches c.number-place.result (Some c.vanish-loss.new.cache)) c.number-place.result None })) c.self.view_is
     (subst (λ caches. StepsInShape (event.Vanish c.args.who) c.answer_of_vanish.result core (record after { caches = caches })) (sym twice)
     (subst (λ said. StepsInShape (event.Vanish c.args.who) said core after) (sym c.answer_of_vanish.ensures)
-    (leaving_made vanish of_vanish (event.Vanish c.args.who) core c.number-place.result c.args.who same client (vanish_is c.args.who client) sound c.in-Some.cache found c.vanish-loss.new.self c.vanish-loss.new.cache c.vanish-loss.result ensured.turn left ensured.client_after ensured.others ensured.sound
+    (leaving_made vanish of_vanish (event.Vanish c.args.who) core c.number-place.result c.args.who same client (vanish_is c.args.who client) sound c.in-Some.cache found c.vanish-loss.new.self c.vanish-loss.new.cache c.vanish-loss.result ensured.turn left ensured.client_after ensured.others ensured.still ensured.sound
     core.calls core.vault core.size core.told
     (λ state shape. refl))))
 
@@ -174,6 +181,7 @@ returns-clause-sound g c =
       hub = c.self.inside.hub;
       caches = c.self.inside.caches.items;
       capacity = c.self.inside.capacity;
+      unfinished = c.self.inside.unfinished;
       calls = c.self.inside.calls;
       vault = c.self.inside.vault;
       size = g.V.Vault.size c.self.inside.vault;
@@ -188,5 +196,5 @@ returns-clause-sound g c =
     let left = ensured.absent in
     let twice = set_again core.caches c.number-place.result (Some c.vanish-loss.new.cache) None in
     subst (λ caches. IsSound (record (placed core c.number-place.result c.vanish-loss.new.self None core.calls core.vault core.size core.told) { caches = caches })) (sym twice)
-    (sound_left vanish of_vanish (event.Vanish c.args.who) core c.number-place.result c.args.who same client (vanish_is c.args.who client) sound c.in-Some.cache found c.vanish-loss.new.self c.vanish-loss.new.cache c.vanish-loss.result ensured.turn left ensured.client_after ensured.others ensured.sound
-    core.calls core.vault core.size core.told refl sound.sure)
+    (sound_left vanish of_vanish (event.Vanish c.args.who) core c.number-place.result c.args.who same client (vanish_is c.args.who client) sound c.in-Some.cache found c.vanish-loss.new.self c.vanish-loss.new.cache c.vanish-loss.result ensured.turn left ensured.client_after ensured.others ensured.still ensured.sound
+    core.calls core.vault core.size core.told refl refl)
