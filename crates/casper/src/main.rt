@@ -1,37 +1,56 @@
 //! The program: hands its words, its input and its output to the top call, and ends with the call's status.
 #![tactic(auto)]
 
-ghost use Rattle.std.specs.Prelude.{◌≡◌, ◌⊎◌, List, codes};
-ghost use Rattle.std.specs.Io.KnownBytes.{append_known};
+ghost use Rattle.std.specs.Prelude.{◌≡◌, ◌⊎◌, false, IfOk, OnErr};
 ghost use Rattle.std.specs.Process.{exit_status};
 ghost use Rattle.casper_words.specs.Count.{FaultCountRose};
-ghost use Rattle.casper_space.specs.declared.answer.Answer.{Answer};
-ghost use Rattle.casper_trail.specs.declared.item.Item.{Item};
-ghost use Rattle.casper_app.specs.declared.end.End.{End};
-ghost use Rattle.casper_app.specs.Ending.{IsRun};
-ghost use Rattle.casper_app.specs.Status.{status_of, status_of_end};
+ghost use Rattle.casper.specs.Begin.{RunsTo, TellsNoMemory};
 
 use casper_app::{Cause, run};
 use casper_io::{Sink, Source, StdSink, StdSource, put_all};
 use casper_text::Word;
+use casper_words::Memory;
 use std::alloc::Global;
 use std::process::ExitCode;
 use std::{env, io};
 
 fn main(rt: HostRuntime) -> ExitCode {
     let mut sink = StdSink::new(rt.stdout());
-    let words = match words_given(&rt) {
-        Ok(words) => words,
-        Err(error) if error.kind() == io::ErrorKind::OutOfMemory => {
-            return end_without_memory(&mut sink);
-        }
-        // A word that is no text is a word of no command, as no word is.
-        Err(_) => Vec::new(rt.alloc()),
+    begin(
+        rt.alloc(),
+        words_given(&rt),
+        StdSource::new(rt.alloc(), rt.stdin()),
+        &mut sink,
+    )
+}
+
+/// Does what the words ask, where there was memory for them and for the source, and ends with the status of the cause.
+fn begin<S: Source + Drop, K: Sink>(
+    alloc: Global,
+    words: Result<Vec<Word>, Memory>,
+    source: Result<S, Memory>,
+    sink: &mut K,
+) -> ExitCode
+    requires source { IfOk source (λ source. S.is_broken source ≡ false) }
+    requires sink { K.is_broken sink.old ≡ false }
+    ensures run { IfOk words (λ words. IfOk source (λ source. (after : S)
+        × RunsTo words.items (S.left source) (S.left after) (S.faults source) (S.faults after)
+        (K.taken sink.old) (K.taken sink.new) (exit_status result))) }
+    ensures no_words { OnErr words (TellsNoMemory (K.taken sink.old) (K.taken sink.new)
+        (exit_status result)) }
+    ensures no_source { OnErr source (TellsNoMemory (K.taken sink.old) (K.taken sink.new)
+        (exit_status result)) }
+    ensures write_fault { exit_status result ≡ 4
+        → FaultCountRose (K.faults sink.old) (K.faults sink.new) }
+    ensures sink_stands { (exit_status result ≡ 4) ⊎ (K.faults sink.new ≡ K.faults sink.old) }
+{
+    let Ok(words) = words else {
+        return end_without_memory(sink);
     };
-    let Ok(mut source) = StdSource::new(rt.alloc(), rt.stdin()) else {
-        return end_without_memory(&mut sink);
+    let Ok(mut source) = source else {
+        return end_without_memory(sink);
     };
-    run_to_end(rt.alloc(), &words, &mut source, &mut sink)
+    run_to_end(alloc, &words, &mut source, sink)
 }
 
 /// Does what the words ask, and ends with the status of the cause.
@@ -41,10 +60,13 @@ fn run_to_end<S: Source, K: Sink>(
     source: &mut S,
     sink: &mut K,
 ) -> ExitCode
-    ensures { (answers : List Answer) × (items : List Item) × (last : End)
-        × IsRun words.now (S.left source.old) (S.left source.new) (K.taken sink.old)
-        (K.taken sink.new) answers items last
-        × (exit_status result ≡ status_of_end last) }
+    requires source { S.is_broken source.old ≡ false }
+    requires sink { K.is_broken sink.old ≡ false }
+    ensures run { RunsTo words.now (S.left source.old) (S.left source.new) (S.faults source.old)
+        (S.faults source.new) (K.taken sink.old) (K.taken sink.new) (exit_status result) }
+    ensures write_fault { exit_status result ≡ 4
+        → FaultCountRose (K.faults sink.old) (K.faults sink.new) }
+    ensures sink_stands { (exit_status result ≡ 4) ⊎ (K.faults sink.new ≡ K.faults sink.old) }
 {
     let ended = run(alloc, words, source, sink);
     ExitCode::from(ended.status)
@@ -52,10 +74,11 @@ fn run_to_end<S: Source, K: Sink>(
 
 /// Ends a call that found no memory to begin with. It takes none.
 fn end_without_memory<K: Sink>(sink: &mut K) -> ExitCode
-    ensures { ((exit_status result ≡ status_of Cause.Memory)
-        × (K.taken sink.new ≡ append_known (K.taken sink.old) (codes "no memory\n")))
-        ⊎ ((exit_status result ≡ status_of Cause.Write)
-        × FaultCountRose (K.faults sink.old) (K.faults sink.new)) }
+    requires { K.is_broken sink.old ≡ false }
+    ensures told { TellsNoMemory (K.taken sink.old) (K.taken sink.new) (exit_status result) }
+    ensures write_fault { exit_status result ≡ 4
+        → FaultCountRose (K.faults sink.old) (K.faults sink.new) }
+    ensures sink_stands { (exit_status result ≡ 4) ⊎ (K.faults sink.new ≡ K.faults sink.old) }
 {
     match put_all(sink, b"no memory\n") {
         Ok(()) => ExitCode::from(Cause::Memory.status()),
@@ -63,8 +86,16 @@ fn end_without_memory<K: Sink>(sink: &mut K) -> ExitCode
     }
 }
 
-/// The words after the program's name.
-fn words_given(rt: &HostRuntime) -> io::Result<Vec<Word>> {
+/// The words after the program's name. A word that is no text is a word of no command, as no word is.
+fn words_given(rt: &HostRuntime) -> Result<Vec<Word>, Memory> {
+    match words_of_texts(rt) {
+        Ok(words) => Ok(words),
+        Err(error) if error.kind() == io::ErrorKind::OutOfMemory => Err(Memory),
+        Err(_) => Ok(Vec::new(rt.alloc())),
+    }
+}
+
+fn words_of_texts(rt: &HostRuntime) -> io::Result<Vec<Word>> {
     let mut words = Vec::new(rt.alloc());
     for text in env::args(rt)?.skip(1) {
         words.push(Word::new(text))?;

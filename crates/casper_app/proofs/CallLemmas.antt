@@ -19,7 +19,7 @@ use Rattle.casper_model.proofs.StepRights.{step_rights}
 use Rattle.casper_model.specs.Rights.{InOrder, AllNameClients}
 use Rattle.casper_app.specs.Lines.{events_in}
 use Rattle.casper_app.specs.Machine.{calls_answered, calls_kept, may_drop, none_dropped, SessionsKeepCalls, SessionsKeepCallsButDropped}
-use Rattle.casper_core.specs.Acting.{outside_of}
+use Rattle.casper_core.specs.Acting.{outside_in}
 use Rattle.casper_core.specs.Stepping.{happenings_of}
 use Rattle.casper_app.proofs.SessionLemmas.{lines_name_clients}
 
@@ -63,7 +63,7 @@ never_by : (state : State) (events : List Event) (given : List Answer) (client :
 never_by state events [] client is none = refl
 never_by state [] (one ∷ given) client is none = refl
 never_by state (asked ∷ events) (one ∷ given) client is none =
-    let turn : Turn = step state asked (outside_of one) in
+    let turn : Turn = step state asked (outside_in asked one) in
     let heads = first_given one turn.answer given (answers_of turn.state (happenings_of events given)) is in
     let parts = and_parts (not (may_drop asked one client)) (none_dropped events given client) none in
     and_from (not (drops_pending state asked turn.answer client)) (never_drops turn.state (happenings_of events given) client)
@@ -76,7 +76,7 @@ completed_by state [] [] client is = refl
 completed_by state (asked ∷ events) [] client is = refl
 completed_by state [] (one ∷ given) client is = refl
 completed_by state (asked ∷ events) (one ∷ given) client is =
-    let turn : Turn = step state asked (outside_of one) in
+    let turn : Turn = step state asked (outside_in asked one) in
     let heads = first_given one turn.answer given (answers_of turn.state (happenings_of events given)) is in
     ap (λ (a : Answer). completed_calls asked a client ++ all_completed turn.state (happenings_of events given) client) (sym heads.0)
     ∙ ap (λ (calls : List Call). completed_calls asked one client ++ calls) (completed_by turn.state events given client heads.1)
@@ -96,13 +96,13 @@ kept_from state [] [] who named order pending is = refl
 kept_from state (asked ∷ events) [] who named order pending is = refl
 kept_from state [] (one ∷ given) who named order pending is = refl
 kept_from state (asked ∷ events) (one ∷ given) who named order pending is =
-    let turn : Turn = step state asked (outside_of one) in
+    let turn : Turn = step state asked (outside_in asked one) in
     let heads = first_given one turn.answer given (answers_of turn.state (happenings_of events given)) is in
     let made : own_list_of turn.state who ≡ calls_left state asked one who ++ completed_calls asked one who =
-    step_completes state asked (outside_of one) named.0 order pending who
+    step_completes state asked (outside_in asked one) named.0 order pending who
     ∙ ap (λ (a : Answer). calls_left state asked a who ++ completed_calls asked a who) (sym heads.0) in
-    kept_from turn.state events given who named.1 (step_rights state asked (outside_of one) named.0 order)
-    (step_calls state asked (outside_of one) named.0 order pending) heads.1
+    kept_from turn.state events given who named.1 (step_rights state asked (outside_in asked one) named.0 order)
+    (step_calls state asked (outside_in asked one) named.0 order pending) heads.1
     ∙ ap (calls_kept turn.state events given who) made
 
 pub sessions_keep_but_dropped : SessionsKeepCallsButDropped

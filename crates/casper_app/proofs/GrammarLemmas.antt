@@ -10,7 +10,7 @@ use Rattle.casper_text.specs.Number.{number_of}
 use Rattle.casper_text.proofs.NumberLemmas.{number_read_back, number_text}
 use Rattle.casper_model.specs.declared.event.Event.{Event}
 use Rattle.casper_model.specs.declared.event.Event.TheVariants as event
-use Rattle.casper_app.specs.Schedule.{client_of, lone_client, place_of, want_of, each_want, are_wants, rising_wants, wants_of, join_of, read_of, write_of, acquire_of, serve_of, depart_of, vanish_of, lose_of, event_of_verb}
+use Rattle.casper_app.specs.Schedule.{client_of, lone_client, place_of, want_of, each_want, are_wants, rising_wants, wants_of, join_of, read_of, write_of, acquire_of, serve_of, depart_of, vanish_of, lose_of, stabilise_of, write_out_of, finish_of, settle_of, event_of_verb}
 use Rattle.casper_app.specs.Grammar.{want_text, words_of_event, AreAsked, IsEvent, EventsAreReadBack, EventsHaveOneText}
 use Rattle.casper_app.proofs.WantLemmas.{want_read_back, text_of_want, wants_found, wants_pass, each_more}
 
@@ -116,10 +116,10 @@ events_are_read_back (event.Acquire who wants) in_ranges =
 events_are_read_back (event.Serve who) in_ranges = ap (option_map (λ (w : ℕ). event.Serve w)) (client_read_back who in_ranges)
 events_are_read_back (event.Depart who) in_ranges = ap (option_map (λ (w : ℕ). event.Depart w)) (client_read_back who in_ranges)
 events_are_read_back (event.Hold who wants) in_ranges = absurd in_ranges
-events_are_read_back (event.Stabilise who) in_ranges = absurd in_ranges
-events_are_read_back (event.WriteOut lead) in_ranges = absurd in_ranges
-events_are_read_back (event.Finish lead) in_ranges = absurd in_ranges
-events_are_read_back event.Settle in_ranges = absurd in_ranges
+events_are_read_back (event.Stabilise who) in_ranges = ap (option_map (λ (w : ℕ). event.Stabilise w)) (client_read_back who in_ranges)
+events_are_read_back (event.WriteOut lead) in_ranges = ap (option_map (λ (w : ℕ). event.WriteOut w)) (client_read_back lead in_ranges)
+events_are_read_back (event.Finish lead) in_ranges = ap (option_map (λ (w : ℕ). event.Finish w)) (client_read_back lead in_ranges)
+events_are_read_back event.Settle in_ranges = refl
 events_are_read_back (event.Vanish who) in_ranges = ap (option_map (λ (w : ℕ). event.Vanish w)) (client_read_back who in_ranges)
 events_are_read_back (event.Lose who) in_ranges = ap (option_map (λ (w : ℕ). event.Lose w)) (client_read_back who in_ranges)
 
@@ -159,6 +159,28 @@ lose_text rest asked asks =
     let who = mapped (λ (w : ℕ). event.Lose w) (lone_client rest) asked asks in
     let named = lone_text rest who.0 who.1 in
     subst (HasText (codes "lose") rest) who.2 (named.0, ap (λ (r : List (List ℕ)). codes "lose" ∷ r) named.1)
+
+stabilise_text : (rest : List (List ℕ)) (asked : Event) → stabilise_of rest ≡ Some asked → HasText (codes "stabilise") rest asked
+stabilise_text rest asked asks =
+    let who = mapped (λ (w : ℕ). event.Stabilise w) (lone_client rest) asked asks in
+    let named = lone_text rest who.0 who.1 in
+    subst (HasText (codes "stabilise") rest) who.2 (named.0, ap (λ (r : List (List ℕ)). codes "stabilise" ∷ r) named.1)
+
+write_out_text : (rest : List (List ℕ)) (asked : Event) → write_out_of rest ≡ Some asked → HasText (codes "writeout") rest asked
+write_out_text rest asked asks =
+    let who = mapped (λ (w : ℕ). event.WriteOut w) (lone_client rest) asked asks in
+    let named = lone_text rest who.0 who.1 in
+    subst (HasText (codes "writeout") rest) who.2 (named.0, ap (λ (r : List (List ℕ)). codes "writeout" ∷ r) named.1)
+
+finish_text : (rest : List (List ℕ)) (asked : Event) → finish_of rest ≡ Some asked → HasText (codes "finish") rest asked
+finish_text rest asked asks =
+    let who = mapped (λ (w : ℕ). event.Finish w) (lone_client rest) asked asks in
+    let named = lone_text rest who.0 who.1 in
+    subst (HasText (codes "finish") rest) who.2 (named.0, ap (λ (r : List (List ℕ)). codes "finish" ∷ r) named.1)
+
+settle_text : (rest : List (List ℕ)) (asked : Event) → settle_of rest ≡ Some asked → HasText (codes "settle") rest asked
+settle_text [] asked asks = let is : event.Settle ≡ asked = cc in subst (HasText (codes "settle") []) is (tt, refl)
+settle_text (word ∷ rest) asked asks = nothing_asked asked asks
 
 read_text : (rest : List (List ℕ)) (asked : Event) → read_of rest ≡ Some asked → HasText (codes "read") rest asked
 read_text [] asked asks = nothing_asked asked asks
@@ -234,7 +256,11 @@ event_text verb rest asked =
     (by_verb verb (codes "serve") rest asked (serve_of rest) _ (serve_text rest asked)
     (by_verb verb (codes "depart") rest asked (depart_of rest) _ (depart_text rest asked)
     (by_verb verb (codes "vanish") rest asked (vanish_of rest) _ (vanish_text rest asked)
-    (by_verb verb (codes "lose") rest asked (lose_of rest) None (lose_text rest asked) (nothing_asked asked))))))))
+    (by_verb verb (codes "lose") rest asked (lose_of rest) _ (lose_text rest asked)
+    (by_verb verb (codes "stabilise") rest asked (stabilise_of rest) _ (stabilise_text rest asked)
+    (by_verb verb (codes "writeout") rest asked (write_out_of rest) _ (write_out_text rest asked)
+    (by_verb verb (codes "finish") rest asked (finish_of rest) _ (finish_text rest asked)
+    (by_verb verb (codes "settle") rest asked (settle_of rest) None (settle_text rest asked) (nothing_asked asked))))))))))))
 
 pub events_have_one_text : EventsHaveOneText
 events_have_one_text [] asked asks = nothing_asked asked asks

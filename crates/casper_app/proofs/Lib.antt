@@ -1,6 +1,7 @@
 pub mod CallLemmas
 pub mod CarryLemmas
 pub mod ChainLemmas
+pub mod CommandLawLemmas
 pub mod GrammarLemmas
 pub mod LineLawLemmas
 pub mod ReadingLemmas

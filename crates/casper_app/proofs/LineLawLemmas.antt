@@ -50,10 +50,10 @@ some_words (event.Acquire who wants) is none = cc
 some_words (event.Serve who) is none = cc
 some_words (event.Depart who) is none = cc
 some_words (event.Hold who wants) is none = is
-some_words (event.Stabilise who) is none = is
-some_words (event.WriteOut lead) is none = is
-some_words (event.Finish lead) is none = is
-some_words event.Settle is none = is
+some_words (event.Stabilise who) is none = cc
+some_words (event.WriteOut lead) is none = cc
+some_words (event.Finish lead) is none = cc
+some_words event.Settle is none = cc
 some_words (event.Vanish who) is none = cc
 some_words (event.Lose who) is none = cc
 
@@ -189,7 +189,7 @@ lines_are_sorted line =
 
 -- how many pages a replay is to be over
 abbrev pages_asked : Result Command Cause → ℕ
-pages_asked (Ok (command.Replay opening)) = opening.pages
+pages_asked (Ok (command.Replay opening outlet)) = opening.pages
 pages_asked (Ok command.Audit) = 0
 pages_asked (Err refused) = 0
 

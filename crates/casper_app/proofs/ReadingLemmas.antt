@@ -8,7 +8,6 @@ use Rattle.casper_io.proofs.Known.{append_known-nil, append_known-append}
 use Rattle.casper_io.proofs.LinesRead.{reads_more}
 use Rattle.casper_io.specs.Lines.{TakesLine, TakesEnd}
 use Rattle.casper_io.specs.Reading.{most_lines}
-use Rattle.casper_io.specs.declared.lines.Next.TheVariants as next
 use Rattle.casper_io.specs.Told.{WhereTold, TakesFront}
 use Rattle.casper_space.specs.declared.answer.Answer.{Answer}
 use Rattle.casper_report.specs.Texts.{answer_line, answer_lines}
@@ -24,8 +23,8 @@ use Rattle.casper_app.specs.Carrying.{Carries}
 use Rattle.casper_app.specs.Lines.{event_of_parsed, event_of_line, events_in, IsTaken, IsTakenAs, AreTaken}
 use Rattle.casper_app.specs.Outlet.{keeps, writes, kept_of, written_of}
 use Rattle.casper_app.specs.Reading.{Stands, IsReading, stop_of}
-use Rattle.casper_app.specs.Replay.{EndsFor, IsTold, WritesButTheLast, WritesAnswers}
-use Rattle.casper_app.specs.Taking.{CarriesLine, TakesInput, NoLine}
+use Rattle.casper_app.specs.Replay.{AsksLast, EndsFor, WritesButTheLast, WritesAnswers}
+use Rattle.casper_app.specs.Taking.{CarriesLine, IsDue, TakesInput, NoLine}
 use Rattle.casper_app.proofs.CarryLemmas.{carries_none, carries_line, carries_still}
 
 taken_more : (lines : List (List ℕ)) (line : List ℕ) → AreTaken lines → IsTaken line → AreTaken (lines ++ line ∷ [])
@@ -140,7 +139,7 @@ module _ {V : Type 0} {tells : Bool} {faults : V → ℕ} {count : ℕ} {first l
   }
 
   -- a line without an answer that ended the reading
-  stays : (said : Cause) → EndsFor (Some said) stands.lines left last → WritesAnswers (Some said) (written_of old.outlet stands.given) (answer_lines (written_of old.outlet stands.given))
+  stays : (said : Cause) → EndsFor (Some said) stands.lines left last (written_of old.outlet stands.given) (written_of old.outlet stands.given) → WritesAnswers (Some said) (written_of old.outlet stands.given) (answer_lines (written_of old.outlet stands.given))
       → count < most_lines → (given : Option Answer) → given ≡ None → CarriesLine tells faults line given middle.core new.core
       → new.answers.items ≡ middle.answers.items ++ kept_of middle.outlet (option_to_list given) → taken_last ≡ taken
       → IsReading tells faults first last taken_first taken_last old new (Err said)
@@ -162,18 +161,16 @@ module _ {V : Type 0} {tells : Bool} {faults : V → ℕ} {count : ℕ} {first l
         out = answer_lines (written_of old.outlet stands.given);
         taken_is = same ∙ stands.written;
         told = written_of old.outlet stands.given;
-        told_is = inl refl;
         written = whole;
       }
 
   -- a line whose event was carried out, and whose answer was not written whole
   carried : (said : Cause) (one : Answer) (asked : Event) → event_of_line line ≡ Some asked → (given : Option Answer) → given ≡ Some one → CarriesLine tells faults line given middle.core new.core
       → new.answers.items ≡ middle.answers.items ++ kept_of middle.outlet (option_to_list given) → count < most_lines
-      → EndsFor (Some said) (stands.lines ++ line ∷ []) last last
-      → (told : List Answer) → IsTold (Some said) (written_of old.outlet (stands.given ++ one ∷ [])) told
+      → (told : List Answer) → EndsFor (Some said) (stands.lines ++ line ∷ []) last last (written_of old.outlet (stands.given ++ one ∷ [])) told
       → (out : List ℕ) → taken_last ≡ append_known taken_first out → WritesAnswers (Some said) told out
       → IsReading tells faults first last taken_first taken_last old new (Err said)
-  carried said one asked asks given some carries kept few ends told told_is out taken_is written =
+  carried said one asked asks given some carries kept few told ends out taken_is written =
       let test : is_some given ≡ is_some (event_of_line line) = ap is_some some ∙ sym (ap is_some asks) in
       let all = carries_with given carries test in
       let both : new.answers.items ≡ old.answers.items ++ kept_of old.outlet (stands.given ++ option_to_list given) = kept_with given kept in
@@ -191,22 +188,29 @@ module _ {V : Type 0} {tells : Bool} {faults : V → ℕ} {count : ℕ} {first l
         out = out;
         taken_is = taken_is;
         told = told;
-        told_is = told_is;
         written = written;
       }
+
+  -- where the answer is to be written, all answers with it are those before it and then it
+  with_last : (one : Answer) → written_of middle.outlet (one ∷ []) ≡ one ∷ [] → written_of old.outlet (stands.given ++ one ∷ []) ≡ written_of old.outlet stands.given ++ one ∷ []
+  with_last one due =
+      part_more (writes old.outlet) stands.given (one ∷ [])
+      ∙ ap (λ (w : List Answer). written_of old.outlet stands.given ++ w) (sym (ap (λ (o : Outlet). written_of o (one ∷ [])) stands.outlet) ∙ due)
+
+  last_asks : (asked : Event) → event_of_line line ≡ Some asked → AsksLast (stands.lines ++ line ∷ [])
+  last_asks asked asks = record { front = stands.lines; line = line; is_last = refl; asked = asked; asks = asks }
 
   -- memory was short before a line's event was carried out, or for the text of its answer
   pub short_of_memory : (given : Option Answer) → CarriesLine tells faults line given middle.core new.core
       → new.answers.items ≡ middle.answers.items ++ kept_of middle.outlet (option_to_list given) → count < most_lines → taken_last ≡ taken
+      → IsDue middle.outlet given → (asked : Event) → event_of_line line ≡ Some asked
       → IsReading tells faults first last taken_first taken_last old new (Err cause.Memory)
-  short_of_memory None carries kept few same = stays cause.Memory (inr (Ok next.Line, line, takes)) refl few None refl carries kept same
-  short_of_memory (Some one) carries kept few same =
-      carried cause.Memory one carries.0 carries.1 (Some one) refl carries kept few (inl refl) (written_of old.outlet stands.given) (all_but_one (writes old.outlet))
+  short_of_memory None carries kept few same due asked asks =
+      stays cause.Memory (inr (inl (omega (arith, stands.counted, few), (line, takes, asked, asks), refl))) refl few None refl carries kept same
+  short_of_memory (Some one) carries kept few same due asked asks =
+      carried cause.Memory one carries.0 carries.1 (Some one) refl carries kept few (written_of old.outlet stands.given)
+      (inr (inr (refl, last_asks carries.0 carries.1, one, with_last one due)))
       (answer_lines (written_of old.outlet stands.given)) (same ∙ stands.written) refl
-    where
-      all_but_one : (test : Bool) → IsTold (Some cause.Memory) (cond test (stands.given ++ one ∷ []) []) (cond test stands.given [])
-      all_but_one true = inr (refl, one, refl)
-      all_but_one false = inl refl
 
   -- the sink failed at the answer
   pub cut_short : (one : Answer) (given : Option Answer) → given ≡ Some one → CarriesLine tells faults line given middle.core new.core
@@ -216,12 +220,9 @@ module _ {V : Type 0} {tells : Bool} {faults : V → ℕ} {count : ℕ} {first l
   cut_short one given some carries kept few whole front =
       let step = subst (λ (g : Option Answer). CarriesLine tells faults line g middle.core new.core) some carries in
       let cut = cut_at taken_first taken taken_last (written_of old.outlet stands.given) one
-      (written_of old.outlet (stands.given ++ one ∷ []))
-      (part_more (writes old.outlet) stands.given (one ∷ []) ∙ ap (λ (w : List Answer). written_of old.outlet stands.given ++ w) (sym (ap (λ (o : Outlet). written_of o (one ∷ [])) stands.outlet) ∙ whole))
-      stands.written front in
+      (written_of old.outlet (stands.given ++ one ∷ [])) (with_last one whole) stands.written front in
       carried cause.Write one step.0 step.1 given some carries kept few
-      (refl, record { front = stands.lines; line = line; is_last = refl; asked = step.0; asks = step.1 })
-      (written_of old.outlet (stands.given ++ one ∷ [])) (inl refl) cut.0 cut.1 cut.2
+      (written_of old.outlet (stands.given ++ one ∷ [])) (refl, last_asks step.0 step.1, refl) cut.0 cut.1 cut.2
 
   -- a line was refused, or memory was short, or the sink failed at its answer
   pub reading_refused : (said : Cause) → count < most_lines → TakesInput tells faults (count + 1) line middle new taken taken_last (Err said)
@@ -229,19 +230,20 @@ module _ {V : Type 0} {tells : Bool} {faults : V → ℕ} {count : ℕ} {first l
   reading_refused cause.Usage few input = absurd input.writes
   reading_refused cause.Read few input = absurd input.writes
   reading_refused cause.Write few input = cut_short input.writes.0 input.given input.writes.1 input.carries input.kept few input.writes.2 input.writes.3
-  reading_refused cause.Memory few input = short_of_memory input.given input.carries input.kept few input.writes
+  reading_refused cause.Memory few input = short_of_memory input.given input.carries input.kept few input.writes.0 input.writes.1 input.writes.2 input.writes.3
   reading_refused (cause.BadLine n) few input =
-      stays (cause.BadLine n) (input.writes.0 ∙ ap (λ (k : ℕ). k + 1) (sym stands.counted), (line, inr (takes, inl input.writes.1))) refl few
+      stays (cause.BadLine n) (input.writes.0 ∙ ap (λ (k : ℕ). k + 1) (sym stands.counted), (line, inr (takes, inl input.writes.1)), refl) refl few
       input.given input.writes.2 input.carries input.kept input.writes.3
   reading_refused (cause.Illegal at rule) few input = absurd input.writes
   reading_refused (cause.Unbuilt n) few input =
-      stays (cause.Unbuilt n) (input.writes.0 ∙ ap (λ (k : ℕ). k + 1) (sym stands.counted), (omega (arith, input.writes.0, few), line, takes, input.writes.1)) refl few
+      stays (cause.Unbuilt n) (input.writes.0 ∙ ap (λ (k : ℕ). k + 1) (sym stands.counted), (omega (arith, input.writes.0, few), line, takes, input.writes.1), refl) refl few
       input.given input.writes.2 input.carries input.kept input.writes.3
 
 module _ {V : Type 0} {tells : Bool} {faults : V → ℕ} {count : ℕ} {first left last taken_first taken : Option (List ℕ)} {old middle : Replay V}
     (stands : Stands tells faults count first left taken_first taken old middle) where
   -- the reading ended after the lines that were answered
-  ended : (result : Result ℕ Cause) → count ≤ most_lines → (told_count : MatchResult result (λ all. all ≡ count) (λ cause. Unit {0})) → EndsFor (stop_of result) stands.lines left last
+  ended : (result : Result ℕ Cause) → count ≤ most_lines → (told_count : MatchResult result (λ all. all ≡ count) (λ cause. Unit {0}))
+      → EndsFor (stop_of result) stands.lines left last (written_of old.outlet stands.given) (written_of old.outlet stands.given)
       → WritesAnswers (stop_of result) (written_of old.outlet stands.given) (answer_lines (written_of old.outlet stands.given))
       → IsReading tells faults first last taken_first taken old middle result
   ended result few told_count ends whole = record {
@@ -258,7 +260,6 @@ module _ {V : Type 0} {tells : Bool} {faults : V → ℕ} {count : ℕ} {first l
     out = answer_lines (written_of old.outlet stands.given);
     taken_is = stands.written;
     told = written_of old.outlet stands.given;
-    told_is = inl refl;
     written = whole;
   }
     where
@@ -268,16 +269,16 @@ module _ {V : Type 0} {tells : Bool} {faults : V → ℕ} {count : ℕ} {first l
 
   -- the source is at its end
   pub reading_done : count ≤ most_lines → WhereTold left last (TakesEnd []) → IsReading tells faults first last taken_first taken old middle (Ok count)
-  reading_done few takes = ended (Ok count) few refl takes refl
+  reading_done few takes = ended (Ok count) few refl (takes, refl) refl
 
   -- no line stood next
   pub reading_failed : (said : Cause) → count ≤ most_lines → NoLine said (count + 1) left last → IsReading tells faults first last taken_first taken old middle (Err said)
   reading_failed cause.Usage few next = absurd next
-  reading_failed cause.Read few next = ended (Err cause.Read) few tt next refl
+  reading_failed cause.Read few next = ended (Err cause.Read) few tt (next, refl) refl
   reading_failed cause.Write few next = absurd next
   reading_failed cause.Memory few next = absurd next
   reading_failed (cause.BadLine n) few next =
-      ended (Err (cause.BadLine n)) few tt (next.0 ∙ ap (λ (k : ℕ). k + 1) (sym stands.counted), (next.1, inl next.2)) refl
+      ended (Err (cause.BadLine n)) few tt (next.0 ∙ ap (λ (k : ℕ). k + 1) (sym stands.counted), (next.1, inl next.2), refl) refl
   reading_failed (cause.Illegal at rule) few next = absurd next
   reading_failed (cause.Unbuilt n) few next = absurd next
 
@@ -289,7 +290,7 @@ module _ {V : Type 0} {tells : Bool} {faults : V → ℕ} {count : ℕ} {first l
   -- one line too many stood next
   pub reading_past : (line : List ℕ) → count ≡ most_lines → WhereTold left last (TakesLine line) → IsReading tells faults first last taken_first taken old middle (Err (cause.BadLine (most_lines + 1)))
   reading_past line all takes =
-      ended (Err (cause.BadLine (most_lines + 1))) (omega (arith, all)) tt (omega (arith, stands.counted, all), (line, inr (takes, inr refl))) refl
+      ended (Err (cause.BadLine (most_lines + 1))) (omega (arith, all)) tt (omega (arith, stands.counted, all), (line, inr (takes, inr refl)), refl) refl
 
 -- what a line did, by its bytes in other words
 pub input_at : {V : Type 0} (tells : Bool) (faults : V → ℕ) (number : ℕ) (line line' : List ℕ) (old new : Replay V) (taken taken_last : Option (List ℕ)) (result : Result (Unit {0}) Cause)

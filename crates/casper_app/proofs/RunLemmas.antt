@@ -29,150 +29,80 @@ use Rattle.casper_app.specs.declared.command.Opening.{Opening}
 use Rattle.casper_app.specs.declared.end.End.{End}
 use Rattle.casper_app.specs.declared.end.End.TheVariants as end
 use Rattle.casper_app.specs.declared.outlet.Outlet.{Outlet}
-use Rattle.casper_app.specs.declared.outlet.Outlet.TheVariants as outlet
 use Rattle.casper_app.specs.declared.replay.Replay.{Replay}
 use Rattle.casper_app.specs.Carrying.{summary_in}
 use Rattle.casper_app.specs.Comes.{TellsOf, TellsInShape, ComesFrom, ComesInShape}
 use Rattle.casper_app.specs.Lines.{events_in}
 use Rattle.casper_app.specs.Outlet.{keeps, writes, kept_of, written_of}
 use Rattle.casper_app.specs.Session.{IsSession, state_behind, trail_behind, summary_of}
-use Rattle.casper_app.specs.Replay.{EndsFor, IsTold, WritesFor, WritesAnswers, cause_of}
+use Rattle.casper_app.specs.Replay.{EndsFor, WritesAnswers, cause_of}
 use Rattle.casper_app.specs.Reading.{IsReading, stop_of}
 use Rattle.casper_app.specs.Ending.{EndsWith, IsDone, RunsReplay, RunsInMemory, RunsRefusal, IsLegalInMemory, start_of, RunsAudit, end_of_audit}
-use Rattle.casper_app.specs.Texts.{end_line}
+use Rattle.casper_app.specs.Texts.{end_line, tells_number}
 use Rattle.casper_app.proofs.CarryLemmas.{session_carried, stands_carried, summary_carried, shape_carried, trail_carried}
 use Rattle.casper_app.proofs.SessionLemmas.{sessions_are_legal}
-
--- how what was said after all differs from what was meant
-Said : End → End → Type 0
-Said meant said = (said ≡ meant) ⊎ ((said ≡ end.Stopped cause.Memory) × (meant ≢ end.Stopped cause.Write))
-
--- whatever ended the reading took what stood next, or nothing
-ends_any : (said : Option Cause) (lines : List (List ℕ)) (before after : Option (List ℕ)) → EndsFor said lines before after → TakesAny before after
-ends_any None lines before after h = inr (Ok next.End, [], h)
-ends_any (Some cause.Usage) lines before after h = absurd h
-ends_any (Some cause.Read) lines before after h = inr (Err fault.Failed, h.0, h.1)
-ends_any (Some cause.Write) lines before after h = inl h.0
-ends_any (Some cause.Memory) lines before after h = h
-ends_any (Some (cause.BadLine n)) lines before after h = elim h.1.1 [ inl long ↦ inr (Ok next.TooLong, h.1.0, long) | inr line ↦ inr (Ok next.Line, h.1.0, line.0) ]
-ends_any (Some (cause.Illegal at rule)) lines before after h = absurd h
-ends_any (Some (cause.Unbuilt n)) lines before after h = inr (Ok next.Line, h.1.1, h.1.2)
-
--- where the sink did not fail at an answer, all of them were written whole
-answers_whole : (meant : End) (told : List Answer) (out : List ℕ) → meant ≢ end.Stopped cause.Write → WritesAnswers (cause_of meant) told out → out ≡ answer_lines told
-answers_whole (end.Done summary) told out not_write h = h
-answers_whole (end.Legal entries) told out not_write h = h
-answers_whole (end.Stopped cause.Usage) told out not_write h = h
-answers_whole (end.Stopped cause.Read) told out not_write h = h
-answers_whole (end.Stopped cause.Write) told out not_write h = absurd (not_write refl)
-answers_whole (end.Stopped cause.Memory) told out not_write h = h
-answers_whole (end.Stopped (cause.BadLine n)) told out not_write h = h
-answers_whole (end.Stopped (cause.Illegal at rule)) told out not_write h = h
-answers_whole (end.Stopped (cause.Unbuilt n)) told out not_write h = h
-
--- the answers as they were written, for what was said after all
-answers_by : (meant said : End) (told : List Answer) (out : List ℕ) → Said meant said → WritesAnswers (cause_of meant) told out → WritesAnswers (cause_of said) told out
-unfolding Said
-answers_by meant said told out why h = elim why [
-  | inl same ↦ subst (λ (e : End). WritesAnswers (cause_of e) told out) (sym same) h
-  | inr memory ↦ subst (λ (e : End). WritesAnswers (cause_of e) told out) (sym memory.0) (answers_whole meant told out memory.1 h)
-]
-
-ends_by : (meant said : End) (lines : List (List ℕ)) (before after : Option (List ℕ)) → Said meant said → EndsFor (cause_of meant) lines before after → EndsFor (cause_of said) lines before after
-unfolding Said
-ends_by meant said lines before after why ends = elim why [
-  | inl same ↦ subst (λ (e : End). EndsFor (cause_of e) lines before after) (sym same) ends
-  | inr memory ↦ subst (λ (e : End). EndsFor (cause_of e) lines before after) (sym memory.0) (ends_any (cause_of meant) lines before after ends)
-]
-
--- the answers that were told are the same where it was said that memory was short after all
-told_by : (meant said : End) (answers told : List Answer) → Said meant said → IsTold (cause_of meant) answers told → IsTold (cause_of said) answers told
-unfolding Said
-told_by meant said answers told why all = elim all [
-  | inl same ↦ inl same
-  | inr last ↦ inr (elim why [ inl meant_it ↦ ap cause_of meant_it ∙ last.0 | inr memory ↦ ap cause_of memory.0 ], last.1, last.2)
-]
 
 -- a fact of what lines come to
 abbrev Coming : Type 1
 Coming = ℕ → End → List Event → List Answer → List Item → Type 0
 
-tells_by : (meant said : End) (summary : Summary) → Said meant said → TellsOf meant summary → TellsOf said summary
-unfolding Said
-tells_by meant said summary why tells = elim why [
-  | inl same ↦ subst (λ (e : End). TellsOf e summary) (sym same) tells
-  | inr memory ↦ subst (λ (e : End). TellsOf e summary) (sym memory.0) tt
-]
-
-shape_by : (meant said : End) (lines : ℕ) (events : List Event) (given : List Answer) (items : List Item) → Said meant said
-    → TellsInShape meant lines events given items → TellsInShape said lines events given items
-unfolding Said
-shape_by meant said lines events given items why tells = elim why [
-  | inl same ↦ subst (λ (e : End). TellsInShape e lines events given items) (sym same) tells
-  | inr memory ↦ subst (λ (e : End). TellsInShape e lines events given items) (sym memory.0) tt
-]
-
 module _ {V : Type 0} {tells : Bool} {faults : V → ℕ} {left left_after taken between : Option (List ℕ)} {old new : Replay V} {result : Result ℕ Cause}
     (reading : IsReading tells faults left left_after taken between old new result) where
   -- what a reading comes to over a vault that tells what it holds
-  comes_from : (start : State) → IsTrue tells → Represents start old.core → (meant said : End) → Said meant said
+  comes_from : (start : State) → IsTrue tells → Represents start old.core → (meant : End)
       → TellsOf meant (summary_of (length reading.lines) start (events_in reading.lines) reading.given)
-      → ComesFrom start (length reading.lines) said (events_in reading.lines) reading.given new.core.hub.trail
-  comes_from start told stands meant said why tells_it =
+      → ComesFrom start (length reading.lines) meant (events_in reading.lines) reading.given new.core.hub.trail
+  comes_from start told stands meant tells_it =
       let after = stands_carried tells faults (events_in reading.lines) reading.given old.core new.core start reading.carries told stands in
       record {
         session = session_carried tells faults (events_in reading.lines) reading.given old.core new.core start reading.carries told stands;
         recorded = trail_carried (state_behind start (events_in reading.lines) reading.given) new.core after;
-        counted = tells_by meant said (summary_of (length reading.lines) start (events_in reading.lines) reading.given) why tells_it;
+        counted = tells_it;
       }
 
   -- and over every vault
-  comes_in_shape : (start : State) → RepresentsButWords start old.core → (meant said : End) → Said meant said
+  comes_in_shape : (start : State) → RepresentsButWords start old.core → (meant : End)
       → TellsInShape meant (length reading.lines) (events_in reading.lines) reading.given new.core.hub.trail
-      → ComesInShape start (length reading.lines) said (events_in reading.lines) reading.given new.core.hub.trail
-  comes_in_shape start shape meant said why tells_it =
+      → ComesInShape start (length reading.lines) meant (events_in reading.lines) reading.given new.core.hub.trail
+  comes_in_shape start shape meant tells_it =
       let run : IsRunMade start (events_in reading.lines) reading.given new.core = reading.carries.shape start shape in
       record {
         each = reading.carries.each;
         answers = run.answers;
         recorded = sym run.shape.shared.trail;
-        counted = shape_by meant said (length reading.lines) (events_in reading.lines) reading.given new.core.hub.trail why tells_it;
+        counted = tells_it;
       }
 
   -- a reading and the line that tells how it ended make a replay
   made : (Comes : Coming) (none : old.answers.items ≡ []) (meant last : End) (taken_after : Option (List ℕ)) → cause_of meant ≡ stop_of result
-      → ((said : End) → Said meant said → Comes (length reading.lines) said (events_in reading.lines) reading.given new.core.hub.trail)
+      → Comes (length reading.lines) meant (events_in reading.lines) reading.given new.core.hub.trail
       → EndsWith meant last between taken_after
       → RunsReplay Comes old.outlet (faults old.core.vault) (faults new.core.vault) left left_after taken taken_after new.answers.items new.core.hub.trail last
-  unfolding Said
-  made Comes none meant last taken_after same comes ending =
-      let ends = subst (λ (c : Option Cause). EndsFor c reading.lines reading.rest left_after) (sym same) reading.ends in
-      let all = subst (λ (c : Option Cause). IsTold c (written_of old.outlet reading.given) reading.told) (sym same) reading.told_is in
-      let whole = subst (λ (c : Option Cause). WritesAnswers c reading.told reading.out) (sym same) reading.written in
-      record {
-        given = reading.given;
-        failures = reading.carries.failures;
-        out = reading.out ++ ending.out;
-        taken_is = ending.taken ∙ ap (λ (known : Option (List ℕ)). append_known known ending.out) reading.taken_is ∙ append_known-append taken reading.out ending.out;
-        replay = record {
-          lines = reading.lines;
-          rest = reading.rest;
-          reads = reading.reads;
-          taken = reading.each;
-          few = reading.few;
-          said = ending.said;
-          ends = ends_by meant ending.said reading.lines reading.rest left_after ending.cause ends;
-          comes = comes ending.said ending.cause;
-          answered = reading.kept ∙ ap (λ (a : List Answer). a ++ kept_of old.outlet reading.given) none;
-          told = reading.told;
-          told_is = told_by meant ending.said (written_of old.outlet reading.given) reading.told ending.cause all;
-          text = reading.out;
-          answers_written = answers_by meant ending.said reading.told reading.out ending.cause whole;
-          ending = ending.out;
-          ending_written = ending.written;
-          written = refl;
-        };
-      }
+  made Comes none meant last taken_after same comes ending = record {
+    given = reading.given;
+    failures = reading.carries.failures;
+    out = reading.out ++ ending.out;
+    taken_is = ending.taken ∙ ap (λ (known : Option (List ℕ)). append_known known ending.out) reading.taken_is ∙ append_known-append taken reading.out ending.out;
+    replay = record {
+      lines = reading.lines;
+      rest = reading.rest;
+      reads = reading.reads;
+      taken = reading.each;
+      few = reading.few;
+      meant = meant;
+      told = reading.told;
+      ends = subst (λ (c : Option Cause). EndsFor c reading.lines reading.rest left_after (written_of old.outlet reading.given) reading.told) (sym same) reading.ends;
+      comes = comes;
+      answered = reading.kept ∙ ap (λ (a : List Answer). a ++ kept_of old.outlet reading.given) none;
+      text = reading.out;
+      answers_written = subst (λ (c : Option Cause). WritesAnswers c reading.told reading.out) (sym same) reading.written;
+      said = ending.said;
+      said_is = ending.said_is;
+      ending = ending.out;
+      ending_written = ending.written;
+      written = refl;
+    };
+  }
 
 -- the source was read to its end, and this is what the last line tells
 module _ {V : Type 0} {tells : Bool} {faults : V → ℕ} {left left_after taken between : Option (List ℕ)} {old new : Replay V} (count : ℕ) (start : State) (last : End) (taken_after : Option (List ℕ))
@@ -188,14 +118,14 @@ module _ {V : Type 0} {tells : Bool} {faults : V → ℕ} {left left_after taken
       let tells_it =
       summary_carried tells faults reading.lines reading.given old.core new.core start count reading.carries told stands calls reading.few
       ∙ ap (λ (n : ℕ). summary_of n start (events_in reading.lines) reading.given) (sym reading.counted) in
-      made reading (ComesFrom start) none meant last taken_after refl (λ said why. comes_from reading start told stands meant said why tells_it) ending
+      made reading (ComesFrom start) none meant last taken_after refl (comes_from reading start told stands meant tells_it) ending
 
   pub shape_done : RepresentsButWords start old.core
       → RunsReplay (ComesInShape start) old.outlet (faults old.core.vault) (faults new.core.vault) left left_after taken taken_after new.answers.items new.core.hub.trail last
   unfolding meant
   shape_done shape =
       let tells_it = shape_carried tells faults reading.lines reading.given old.core new.core count reading.carries calls reading.few (sym reading.counted) in
-      made reading (ComesInShape start) none meant last taken_after refl (λ said why. comes_in_shape reading start shape meant said why tells_it) ending
+      made reading (ComesInShape start) none meant last taken_after refl (comes_in_shape reading start shape meant tells_it) ending
 
 -- the reading ended before
 module _ {V : Type 0} {tells : Bool} {faults : V → ℕ} {left left_after taken between : Option (List ℕ)} {old new : Replay V} (said : Cause) (start : State) (last : End) (taken_after : Option (List ℕ))
@@ -204,12 +134,12 @@ module _ {V : Type 0} {tells : Bool} {faults : V → ℕ} {left left_after taken
   pub runs_stopped : IsTrue tells → Represents start old.core
       → RunsReplay (ComesFrom start) old.outlet (faults old.core.vault) (faults new.core.vault) left left_after taken taken_after new.answers.items new.core.hub.trail last
   runs_stopped told stands =
-      made reading (ComesFrom start) none (end.Stopped said) last taken_after refl (λ after why. comes_from reading start told stands (end.Stopped said) after why tt) ending
+      made reading (ComesFrom start) none (end.Stopped said) last taken_after refl (comes_from reading start told stands (end.Stopped said) tt) ending
 
   pub shape_stopped : RepresentsButWords start old.core
       → RunsReplay (ComesInShape start) old.outlet (faults old.core.vault) (faults new.core.vault) left left_after taken taken_after new.answers.items new.core.hub.trail last
   shape_stopped shape =
-      made reading (ComesInShape start) none (end.Stopped said) last taken_after refl (λ after why. comes_in_shape reading start shape (end.Stopped said) after why tt) ending
+      made reading (ComesInShape start) none (end.Stopped said) last taken_after refl (comes_in_shape reading start shape (end.Stopped said) tt) ending
 
 no_answers_of : (test : Bool) → ◌≡◌ {A = List Answer} (cond test [] []) []
 no_answers_of true = refl
@@ -218,9 +148,8 @@ no_answers_of false = refl
 -- nothing was read, and memory was short
 module _ (start : State) (outlet : Outlet) (faults : ℕ) (left taken taken_after : Option (List ℕ)) (answers : List Answer) (items : List Item) (last : End)
     (ending : EndsWith (end.Stopped cause.Memory) last taken taken_after) (no_answers : answers ≡ []) (same_items : items ≡ start.shared.trail) where
-  unread : (Comes : Coming) → ((said : End) → Said (end.Stopped cause.Memory) said → Comes 0 said [] [] items)
+  unread : (Comes : Coming) → Comes 0 (end.Stopped cause.Memory) [] [] items
       → RunsReplay Comes outlet faults faults left left taken taken_after answers items last
-  unfolding Said
   unread Comes comes = record {
     given = [];
     failures = omega arith;
@@ -232,14 +161,15 @@ module _ (start : State) (outlet : Outlet) (faults : ℕ) (left taken taken_afte
       reads = refl;
       taken = tt;
       few = omega arith;
-      said = ending.said;
-      ends = ends_by (end.Stopped cause.Memory) ending.said [] left left ending.cause (inl refl);
-      comes = comes ending.said ending.cause;
-      answered = no_answers ∙ sym (no_answers_of (keeps outlet));
+      meant = end.Stopped cause.Memory;
       told = [];
-      told_is = inl (no_answers_of (writes outlet));
+      ends = inl (refl, refl, no_answers_of (writes outlet));
+      comes = comes;
+      answered = no_answers ∙ sym (no_answers_of (keeps outlet));
       text = [];
-      answers_written = answers_by (end.Stopped cause.Memory) ending.said [] [] ending.cause refl;
+      answers_written = refl;
+      said = ending.said;
+      said_is = ending.said_is;
       ending = ending.out;
       ending_written = ending.written;
       written = refl;
@@ -247,27 +177,27 @@ module _ (start : State) (outlet : Outlet) (faults : ℕ) (left taken taken_afte
   }
 
   pub runs_unread : RunsReplay (ComesFrom start) outlet faults faults left left taken taken_after answers items last
-  runs_unread = unread (ComesFrom start) (λ said why. record {
+  runs_unread = unread (ComesFrom start) (record {
     session = record { each = refl; outside_fits = refl; answers = refl };
     recorded = same_items;
-    counted = tells_by (end.Stopped cause.Memory) said (summary_of 0 start [] []) why tt;
+    counted = tt;
   })
 
   pub shape_unread : RunsReplay (ComesInShape start) outlet faults faults left left taken taken_after answers items last
-  shape_unread = unread (ComesInShape start) (λ said why. record {
+  shape_unread = unread (ComesInShape start) (record {
     each = refl;
     answers = refl;
     recorded = same_items;
-    counted = shape_by (end.Stopped cause.Memory) said 0 [] [] items why tt;
+    counted = tt;
   })
 
 -- over a vault whose faults are never counted nothing failed
 never_failed : (count : ℕ) → RoseBy count 0 0 → count ≡ 0
 never_failed count rose = omega (arith, rose)
 
-pub runs_in_memory : (opening : Opening) (left left_after taken taken_after : Option (List ℕ)) (answers : List Answer) (items : List Item) (last : End)
-    → RunsReplay (ComesFrom (start_of opening)) outlet.Written 0 0 left left_after taken taken_after answers items last → RunsInMemory opening left left_after taken taken_after answers items last
-runs_in_memory opening left left_after taken taken_after answers items last run = record {
+pub runs_in_memory : (opening : Opening) (outlet : Outlet) (left left_after taken taken_after : Option (List ℕ)) (answers : List Answer) (items : List Item) (last : End)
+    → RunsReplay (ComesFrom (start_of opening)) outlet 0 0 left left_after taken taken_after answers items last → RunsInMemory opening outlet left left_after taken taken_after answers items last
+runs_in_memory opening outlet left left_after taken taken_after answers items last run = record {
   given = run.given;
   unfailing = never_failed (failures_in run.given) run.failures;
   out = run.out;
@@ -276,20 +206,21 @@ runs_in_memory opening left left_after taken taken_after answers items last run 
 }
 
 -- what was read and recorded is legal
-pub legal_in_memory : (opening : Opening) (faults faults_after : ℕ) (left left_after taken taken_after : Option (List ℕ)) (answers : List Answer) (items : List Item) (last : End)
-    → RunsReplay (ComesFrom (start_of opening)) outlet.Written faults faults_after left left_after taken taken_after answers items last → IsLegalInMemory opening left answers items
-legal_in_memory opening faults faults_after left left_after taken taken_after answers items last run =
+pub legal_in_memory : (opening : Opening) (outlet : Outlet) (faults faults_after : ℕ) (left left_after taken taken_after : Option (List ℕ)) (answers : List Answer) (items : List Item) (last : End)
+    → RunsReplay (ComesFrom (start_of opening)) outlet faults faults_after left left_after taken taken_after answers items last → IsLegalInMemory opening outlet left answers items
+legal_in_memory opening outlet faults faults_after left left_after taken taken_after answers items last run =
     let replay = run.replay in
     let legal = sessions_are_legal (zero_vault opening.pages) opening.pages opening.entries opening.cache replay.lines run.given in
-    let all : ◌≡◌ {A = List Answer} run.given answers = sym replay.answered in
     record {
       lines = replay.lines;
       rest = replay.rest;
       reads = replay.reads;
-      session = subst (λ (a : List Answer). IsSession (start_of opening) (events_in replay.lines) a) all replay.comes.session;
-      recorded = replay.comes.recorded ∙ ap (trail_behind (start_of opening) (events_in replay.lines)) all;
+      given = run.given;
+      answered = replay.answered;
+      session = replay.comes.session;
+      recorded = replay.comes.recorded;
       legal = subst (λ (i : List Item). IsLegal (start_of opening).base i) (sym replay.comes.recorded) legal.0;
-      whole = subst (λ (a : List Answer). IsLegal (start_of opening).base (whole_of (state_behind (start_of opening) (events_in replay.lines) a))) all legal.1;
+      whole = legal.1;
     }
 
 -- the same, by what the calls of a replay gave
@@ -310,33 +241,18 @@ not_write refused why write = elim why [ inl usage ↦ cc | inr unbuilt ↦ cc ]
 -- words were refused
 pub runs_refusal : (refused : Cause) (left taken taken_after : Option (List ℕ)) (answers : List Answer) (items : List Item) (last : End) → EndsWith (end.Stopped refused) last taken taken_after
     → answers ≡ [] → items ≡ [] → RunsRefusal refused left left taken taken_after answers items last
-runs_refusal refused left taken taken_after answers items last ending no_answers no_items = by_cause ending.cause
-  where
-    by_cause : (ending.said ≡ end.Stopped refused) ⊎ ((ending.said ≡ end.Stopped cause.Memory) × (end.Stopped refused ≢ end.Stopped cause.Write)) → RunsRefusal refused left left taken taken_after answers items last
-    by_cause (inl same) = record {
-      out = ending.out;
-      taken_is = ending.taken;
-      refusal = record {
-        unread = refl;
-        answered = no_answers;
-        recorded = no_items;
-        said = refused;
-        cause = inl refl;
-        written = subst (λ (e : End). WritesFor e last (end_line e) ending.out) same ending.written;
-      };
-    }
-    by_cause (inr memory) = record {
-      out = ending.out;
-      taken_is = ending.taken;
-      refusal = record {
-        unread = refl;
-        answered = no_answers;
-        recorded = no_items;
-        said = cause.Memory;
-        cause = inr refl;
-        written = subst (λ (e : End). WritesFor e last (end_line e) ending.out) memory.0 ending.written;
-      };
-    }
+runs_refusal refused left taken taken_after answers items last ending no_answers no_items = record {
+  out = ending.out;
+  taken_is = ending.taken;
+  refusal = record {
+    unread = refl;
+    answered = no_answers;
+    recorded = no_items;
+    said = ending.said;
+    said_is = ending.said_is;
+    written = ending.written;
+  };
+}
 
 end_told : (rest after : Option (List ℕ)) → WhereTold rest after (TakesEnd []) → IfSome after (λ left. left ≡ [])
 end_told None None h = tt
@@ -347,7 +263,7 @@ end_told (Some rest) (Some after) h = h.rest
 -- where the source was read to its end, it is there
 pub done_at_end : {V : Type 0} {tells : Bool} {faults : V → ℕ} {left left_after taken between : Option (List ℕ)} {old new : Replay V} (count : ℕ)
     → IsReading tells faults left left_after taken between old new (Ok count) → IfSome left_after (λ bytes. bytes ≡ [])
-done_at_end {V} {tells} {faults} {left} {left_after} count reading = end_told reading.rest left_after reading.ends
+done_at_end {V} {tells} {faults} {left} {left_after} count reading = end_told reading.rest left_after reading.ends.0
 
 -- only an audit that read the whole text means to be done
 pub audit_done : (found : Result Verdict AuditFault) (left left_after : Option (List ℕ)) → IsAudit left left_after found → IsDone (end_of_audit found) → IfSome left_after (λ bytes. bytes ≡ [])
@@ -386,17 +302,18 @@ read_meant meant last ended read = elim ended [
   ])
 ]
 
--- an audit whose source failed ends so, unless the sink fails or memory is short
-pub audit_stands : (found : Result Verdict AuditFault) (last : End) (before after : ℕ) → (last ≡ end_of_audit found) ⊎ (last ≡ end.Stopped cause.Write) ⊎ (last ≡ end.Stopped cause.Memory)
-    → (found ≡ Err trail_fault.Read) ⊎ (after ≡ before)
-    → (last ≡ end.Stopped cause.Read) ⊎ (last ≡ end.Stopped cause.Write) ⊎ (last ≡ end.Stopped cause.Memory) ⊎ (after ≡ before)
-audit_stands found last before after ended stands = elim stands [
-  | inl failed ↦ elim ended [
-    | inl same ↦ inl (same ∙ ap end_of_audit failed)
-    | inr other ↦ inr (elim other [ inl write ↦ inl write | inr memory ↦ inr (inl memory) ])
-  ]
-  | inr same ↦ inr (inr (inr same))
+-- a call whose source failed ends so, unless the sink fails
+pub source_by : (meant last : End) (before after : ℕ) → (meant ≡ end.Stopped cause.Read) ⊎ (after ≡ before)
+    → (tells_number meant ≡ false → (last ≡ meant) ⊎ (last ≡ end.Stopped cause.Write))
+    → (last ≡ end.Stopped cause.Read) ⊎ (last ≡ end.Stopped cause.Write) ⊎ (after ≡ before)
+source_by meant last before after why ended = elim why [
+  | inl read ↦ elim (ended (ap tells_number read)) [ inl same ↦ inl (same ∙ read) | inr write ↦ inr (inl write) ]
+  | inr same ↦ inr (inr same)
 ]
+
+-- one cause stopped both
+pub stopped_by : (why other : Cause) → ◌≡◌ {A = Result ℕ Cause} (Err why) (Err other) → end.Stopped why ≡ end.Stopped other
+stopped_by why other same = ap end.Stopped (let causes : why ≡ other = cc in causes)
 
 -- an audit and the line that tells how it ended
 pub runs_audit : (found : Result Verdict AuditFault) (meant last : End) (left left_after taken taken_after : Option (List ℕ)) (answers : List Answer) (items : List Item)

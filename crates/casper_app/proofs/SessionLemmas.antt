@@ -1,16 +1,18 @@
-use Rattle.std.proofs.Common.{◌≡◌, ℕ, ◌+◌, Bool, true, false, List, [], ◌∷◌, Option, Some, None, refl, ap, subst, ◌∙◌, cond, arith, length}
+use Rattle.std.proofs.Common.{◌≡◌, ℕ, ◌+◌, Bool, true, false, List, [], ◌∷◌, Option, Some, None, refl, ap, ap₂, subst, ◌∙◌, cond, arith, length}
 use Rattle.std.specs.List.{cons_option}
 use Rattle.std.specs.Option.{option_map_or}
 use Rattle.casper_space.specs.declared.answer.Answer.{Answer}
+use Rattle.casper_space.specs.declared.answer.Answer.TheVariants as answer
 use Rattle.casper_text.specs.Line.{all_printable, words}
 use Rattle.casper_model.specs.declared.event.Event.{Event}
 use Rattle.casper_model.specs.declared.event.Event.TheVariants as event
-use Rattle.casper_model.specs.Outside.{LoadFailed, NothingFailed}
+use Rattle.casper_model.specs.Outside.{Outside, LoadFailed, SettleFailed, NothingFailed}
 use Rattle.casper_model.specs.Run.{Happening, state_after, answers_of, is_disk}
 use Rattle.casper_model.specs.Rights.{NamesClients, AllNameClients}
 use Rattle.casper_model.proofs.RunHistory.{every_run_legal}
 use Rattle.casper_model.proofs.WholeRuns.{every_run_whole}
-use Rattle.casper_core.specs.Stepping.{happenings_of, failures_in}
+use Rattle.casper_core.specs.Acting.{outside_written, outside_in}
+use Rattle.casper_core.specs.Stepping.{happenings_of, is_fault, failures_in}
 use Rattle.casper_app.specs.declared.schedule.Parsed.TheVariants as parsed
 use Rattle.casper_app.specs.Schedule.{event_of, is_unbuilt, is_comment, refused_as, parsed_words, parsed_line}
 use Rattle.casper_app.specs.Grammar.{IsEvent}
@@ -18,19 +20,34 @@ use Rattle.casper_app.specs.Lines.{event_of_parsed, event_of_line, events_in}
 use Rattle.casper_app.specs.Machine.{unfailing, UnfailingSessions, LinesNameClients, SessionsAreLegal}
 use Rattle.casper_app.proofs.GrammarLemmas.{events_have_one_text}
 
--- where no answer tells of a fault, nothing failed
+-- where an answer tells of no fault, nothing failed
+wrote_well : (said : Answer) → is_fault said ≡ false → outside_written said ≡ NothingFailed
+wrote_well answer.Disk is = cc
+wrote_well answer.Doubt is = cc
+wrote_well other is = refl
+
+no_disk : (said : Answer) → is_fault said ≡ false → is_disk said ≡ false
+no_disk answer.Disk is = cc
+no_disk other is = refl
+
+nothing_failed : (asked : Event) (said : Answer) → is_fault said ≡ false → outside_in asked said ≡ NothingFailed
+nothing_failed (event.WriteOut lead) said is = wrote_well said is
+nothing_failed event.Settle said is = ap (λ (failed : Bool). cond failed SettleFailed NothingFailed) (no_disk said is)
+nothing_failed other said is = ap (λ (failed : Bool). cond failed LoadFailed NothingFailed) (no_disk said is)
+
 none_failed : (events : List Event) (given : List Answer) → length given ≡ length events → failures_in given ≡ 0 → happenings_of events given ≡ unfailing events
 none_failed [] [] each none = refl
 none_failed [] (one ∷ given) each none = absurd (omega (arith, each))
 none_failed (asked ∷ events) [] each none = absurd (omega (arith, each))
-none_failed (asked ∷ events) (one ∷ given) each none = by_test (is_disk one) none (λ rest. none_failed events given (omega (arith, each)) rest)
+none_failed (asked ∷ events) (one ∷ given) each none =
+    by_test (is_fault one) (nothing_failed asked one) none (λ rest. none_failed events given (omega (arith, each)) rest)
   where
-    by_test : (test : Bool) → cond test 1 0 + failures_in given ≡ 0 → (failures_in given ≡ 0 → happenings_of events given ≡ unfailing events)
-        → ◌≡◌ {A = List Happening} ((record { event = asked; outside = cond test LoadFailed NothingFailed }) ∷ happenings_of events given) (unfailing (asked ∷ events))
-    by_test true some following = absurd (omega (arith, some))
-    by_test false some following =
-        let first : Happening = record { event = asked; outside = NothingFailed } in
-        ap (λ (rest : List Happening). first ∷ rest) (following (omega (arith, some)))
+    by_test : (test : Bool) → (test ≡ false → outside_in asked one ≡ NothingFailed) → cond test 1 0 + failures_in given ≡ 0
+        → (failures_in given ≡ 0 → happenings_of events given ≡ unfailing events)
+        → ◌≡◌ {A = List Happening} ((record { event = asked; outside = outside_in asked one }) ∷ happenings_of events given) (unfailing (asked ∷ events))
+    by_test true quiet some following = absurd (omega (arith, some))
+    by_test false quiet some following =
+        ap₂ (λ (outside : Outside) (rest : List Happening). record { event = asked; outside = outside } ∷ rest) (quiet refl) (following (omega (arith, some)))
 
 pub unfailing_sessions : UnfailingSessions
 unfailing_sessions start events given session none =
@@ -51,10 +68,10 @@ client_named (event.Acquire who wants) is = is.0
 client_named (event.Serve who) is = is
 client_named (event.Depart who) is = is
 client_named (event.Hold who wants) is = absurd is
-client_named (event.Stabilise who) is = absurd is
-client_named (event.WriteOut lead) is = absurd is
-client_named (event.Finish lead) is = absurd is
-client_named event.Settle is = absurd is
+client_named (event.Stabilise who) is = is
+client_named (event.WriteOut lead) is = is
+client_named (event.Finish lead) is = is
+client_named event.Settle is = tt
 client_named (event.Vanish who) is = is
 client_named (event.Lose who) is = is
 

@@ -35,10 +35,10 @@ built (event.Acquire who wants) is = tt
 built (event.Serve who) is = tt
 built (event.Depart who) is = tt
 built (event.Hold who wants) is = absurd is
-built (event.Stabilise who) is = absurd is
-built (event.WriteOut lead) is = absurd is
-built (event.Finish lead) is = absurd is
-built event.Settle is = absurd is
+built (event.Stabilise who) is = tt
+built (event.WriteOut lead) is = tt
+built (event.Finish lead) is = tt
+built event.Settle is = tt
 built (event.Vanish who) is = tt
 built (event.Lose who) is = tt
 
@@ -77,7 +77,7 @@ input_of_event tells faults number line asked old new before after result parses
     by_result : (r : Result (Unit {0}) Cause) (given : Option Answer) → WritesAnswer old.outlet given before after r → WritesForLine number line old.outlet given before after r
     by_result (Ok done) given h = (taken, h.0 ∙ sym (ap is_some asks), h.1)
     by_result (Err cause.Write) given h = h
-    by_result (Err cause.Memory) given h = h
+    by_result (Err cause.Memory) given h = (h.0, h.1, asked, asks)
     by_result (Err cause.Usage) given h = absurd h
     by_result (Err cause.Read) given h = absurd h
     by_result (Err (cause.BadLine n)) given h = absurd h
@@ -106,8 +106,8 @@ front_of before after text text' same front = subst (λ (t : List ℕ). TakesFro
 -- memory was short for the text of an answer
 pub memory_short : {V : Type 0} (tells : Bool) (faults : V → ℕ) (asked : Event) (one : Answer) (old new : Replay V) (taken : Option (List ℕ)) (result : Result (Unit {0}) Cause)
     → IsErrAnd result (λ made. made ≡ cause.Memory) → MakesStep tells faults asked one old.core new.core → new.outlet ≡ old.outlet
-    → new.answers.items ≡ old.answers.items ++ kept_of old.outlet (one ∷ []) → TakesEvent tells faults asked old new taken taken result
-memory_short tells faults asked one old new taken (Ok done) made step same kept = absurd made
-memory_short tells faults asked one old new taken (Err said) made step same kept =
+    → new.answers.items ≡ old.answers.items ++ kept_of old.outlet (one ∷ []) → written_of old.outlet (one ∷ []) ≡ one ∷ [] → TakesEvent tells faults asked old new taken taken result
+memory_short tells faults asked one old new taken (Ok done) made step same kept due = absurd made
+memory_short tells faults asked one old new taken (Err said) made step same kept due =
     subst (λ (c : Cause). TakesEvent tells faults asked old new taken taken (Err c)) (sym made)
-    (record { given = Some one; carries = step; outlet = same; kept = kept; writes = refl })
+    (record { given = Some one; carries = step; outlet = same; kept = kept; writes = (refl, due) })

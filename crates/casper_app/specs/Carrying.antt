@@ -2,20 +2,19 @@ use Rattle.std.specs.Prelude.{◌≡◌, ℕ, ◌+◌, ◌-◌, ◌^◌, ◌≤�
 use Rattle.casper_words.specs.Count.{FaultCountRose}
 use Rattle.casper_trail.specs.TrailView.{commit_count, rollback_count}
 use Rattle.casper_space.specs.declared.answer.Answer.{Answer}
-use Rattle.casper_space.specs.declared.answer.Answer.TheVariants as answer
 use Rattle.casper_report.specs.declared.summary.Summary.{Summary}
 use Rattle.casper_model.specs.declared.event.Event.{Event}
 use Rattle.casper_model.specs.State.{State}
 use Rattle.casper_core.specs.CoreView.{CoreView}
 use Rattle.casper_core.specs.Shaped.{StepsInShape, RunsInShape}
 use Rattle.casper_core.specs.Represents.{Represents}
-use Rattle.casper_core.specs.Stepping.{Steps, Runs, IsUnchanged, RoseBy, completes, counted, completed_in, failures_in}
+use Rattle.casper_core.specs.Stepping.{Steps, Runs, IsUnchanged, RoseBy, is_fault, completes, counted, completed_in, failures_in}
 
 -- a core carried an event out, and answered it so. `tells` and `faults` are those of its vault
 pub record MakesStep {V : Type 0} (tells : Bool) (faults : V → ℕ) (asked : Event) (given : Answer) (before after : CoreView V) : Type 0 where
   pub step : IsTrue tells → Steps asked given before after
   pub shape : StepsInShape asked given before after
-  pub fault : given ≡ answer.Disk → FaultCountRose (faults before.vault) (faults after.vault)
+  pub fault : IsTrue (is_fault given) → FaultCountRose (faults before.vault) (faults after.vault)
   pub never_falls : faults before.vault ≤ faults after.vault
   pub calls : after.calls ≡ counted (completes asked given) before.calls
 

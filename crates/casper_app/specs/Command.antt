@@ -8,6 +8,7 @@ use Rattle.casper_app.specs.declared.cause.Cause.TheVariants as cause
 use Rattle.casper_app.specs.declared.command.Command.{Command}
 use Rattle.casper_app.specs.declared.command.Command.TheVariants as command
 use Rattle.casper_app.specs.declared.command.Opening.{Opening}
+use Rattle.casper_app.specs.declared.outlet.Outlet.TheVariants as outlet
 
 -- how a session begins, within the limits of a store
 pub record IsOpening (opening : Opening) : Type 0 where
@@ -18,7 +19,7 @@ pub record IsOpening (opening : Opening) : Type 0 where
 
 -- what a command says is within its limits
 abbrev pub IsCommand : Command → Type 0
-IsCommand (command.Replay opening) = IsOpening opening
+IsCommand (command.Replay opening outlet) = IsOpening opening
 IsCommand command.Audit = Unit {0}
 
 -- the words that a command begins with
@@ -28,9 +29,9 @@ commands = codes "format" ∷ codes "check" ∷ codes "replay" ∷ codes "run" �
 abbrev pub is_command : List ℕ → Bool
 is_command word = list_any (bytes_eq word) commands
 
--- a replay over a store in memory of so many pages, where no word says more
+-- a replay over a store in memory of so many pages, where no word says more: the answers are written
 abbrev pub replay_of_pages : ℕ → Command
-replay_of_pages pages = command.Replay (record { pages = pages; cache = 64; entries = 4194304 })
+replay_of_pages pages = command.Replay (record { pages = pages; cache = 64; entries = 4194304 }) outlet.Written
 
 -- the number of pages of a store in memory, from 1 to 16,384
 abbrev pub pages_from : ℕ → Result Command Cause

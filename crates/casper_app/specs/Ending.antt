@@ -22,12 +22,12 @@ use Rattle.casper_app.specs.declared.command.Opening.{Opening}
 use Rattle.casper_app.specs.declared.end.End.{End}
 use Rattle.casper_app.specs.declared.end.End.TheVariants as end
 use Rattle.casper_app.specs.declared.outlet.Outlet.{Outlet}
-use Rattle.casper_app.specs.declared.outlet.Outlet.TheVariants as outlet
 use Rattle.casper_app.specs.Comes.{ComesFrom}
 use Rattle.casper_app.specs.Command.{command_of}
 use Rattle.casper_app.specs.Lines.{events_in}
 use Rattle.casper_app.specs.Session.{IsSession, state_behind, trail_behind}
-use Rattle.casper_app.specs.Replay.{IsReplay, IsRefusal, WritesFor}
+use Rattle.casper_app.specs.Outlet.{kept_of}
+use Rattle.casper_app.specs.Replay.{IsReplay, IsRefusal, IsSaid, WritesFor}
 use Rattle.casper_app.specs.Texts.{end_line}
 
 -- a last text was written for an end
@@ -39,7 +39,7 @@ pub record WritesLast (said last : End) (text : List ℕ) (before after : Option
 -- the line that tells how a call ended was written for what it meant to say, or for want of memory
 pub record EndsWith (meant last : End) (before after : Option (List ℕ)) : Type 0 where
   pub said : End
-  pub cause : (said ≡ meant) ⊎ ((said ≡ end.Stopped cause.Memory) × (meant ≢ end.Stopped cause.Write))
+  pub said_is : IsSaid meant said
   pub out : List ℕ
   pub taken : after ≡ append_known before out
   pub written : WritesFor said last (end_line said) out
@@ -64,12 +64,12 @@ abbrev pub start_of : Opening → State
 start_of opening = zero_start opening.pages opening.entries opening.cache
 
 -- a replay over a store in memory wrote this, and nothing failed by the outside
-pub record RunsInMemory (opening : Opening) (left left_after taken taken_after : Option (List ℕ)) (answers : List Answer) (items : List Item) (last : End) : Type 0 where
+pub record RunsInMemory (opening : Opening) (outlet : Outlet) (left left_after taken taken_after : Option (List ℕ)) (answers : List Answer) (items : List Item) (last : End) : Type 0 where
   pub given : List Answer
   pub unfailing : failures_in given ≡ 0
   pub out : List ℕ
   pub taken_is : taken_after ≡ append_known taken out
-  pub replay : IsReplay (ComesFrom (start_of opening)) outlet.Written left left_after given answers items last out
+  pub replay : IsReplay (ComesFrom (start_of opening)) outlet left left_after given answers items last out
 
 -- the words were refused, and this was written
 pub record RunsRefusal (refused : Cause) (left left_after taken taken_after : Option (List ℕ)) (answers : List Answer) (items : List Item) (last : End) : Type 0 where
@@ -95,7 +95,7 @@ pub record RunsAudit (left left_after taken taken_after : Option (List ℕ)) (an
 
 -- what a command does: what was read, answered, recorded and written
 abbrev pub RunsCommand : Command → Option (List ℕ) → Option (List ℕ) → Option (List ℕ) → Option (List ℕ) → List Answer → List Item → End → Type 0
-RunsCommand (command.Replay opening) left left_after taken taken_after answers items last = RunsInMemory opening left left_after taken taken_after answers items last
+RunsCommand (command.Replay opening outlet) left left_after taken taken_after answers items last = RunsInMemory opening outlet left left_after taken taken_after answers items last
 RunsCommand command.Audit left left_after taken taken_after answers items last = RunsAudit left left_after taken taken_after answers items last
 
 -- a call of `run` does what its words ask
@@ -106,17 +106,20 @@ IsRun words left left_after taken taken_after answers items last = MatchResult (
 
 -- a replay over a store in memory ended in a session: the answers and the trail are those of the events that lines at the front of
 -- the source ask for. The trail is legal over the zero pages, and so is the whole history: the trail, and then the calls that are pending
-pub record IsLegalInMemory (opening : Opening) (left : Option (List ℕ)) (answers : List Answer) (items : List Item) : Type 0 where
+pub record IsLegalInMemory (opening : Opening) (outlet : Outlet) (left : Option (List ℕ)) (answers : List Answer) (items : List Item) : Type 0 where
   pub lines : List (List ℕ)
   pub rest : Option (List ℕ)
   pub reads : ReadsLines left lines rest
-  pub session : IsSession (start_of opening) (events_in lines) answers
-  pub recorded : items ≡ trail_behind (start_of opening) (events_in lines) answers
+  pub given : List Answer
+  pub answered : answers ≡ kept_of outlet given
+  pub session : IsSession (start_of opening) (events_in lines) given
+  pub recorded : items ≡ trail_behind (start_of opening) (events_in lines) given
   pub legal : IsLegal (zero_pages opening.pages) items
-  pub whole : IsLegal (zero_pages opening.pages) (whole_of (state_behind (start_of opening) (events_in lines) answers))
+  pub whole : IsLegal (zero_pages opening.pages) (whole_of (state_behind (start_of opening) (events_in lines) given))
 
+-- what a command leaves is legal: a replay's answers and trail, and of an audit there is no trail
 abbrev pub IsLegalCommand : Command → Option (List ℕ) → List Answer → List Item → Type 0
-IsLegalCommand (command.Replay opening) left answers items = IsLegalInMemory opening left answers items
+IsLegalCommand (command.Replay opening outlet) left answers items = IsLegalInMemory opening outlet left answers items
 IsLegalCommand command.Audit left answers items = items ≡ []
 
 -- a replay is legal over the zero pages that the words ask for, and the trail is empty where the words are refused

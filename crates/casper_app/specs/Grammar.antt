@@ -1,4 +1,4 @@
-use Rattle.std.specs.Prelude.{◌≡◌, ℕ, ◌^◌, ◌<◌, List, [], ◌∷◌, ◌++◌, Some, All, map, codes}
+use Rattle.std.specs.Prelude.{◌≡◌, ℕ, ◌^◌, ◌<◌, List, [], ◌∷◌, ◌++◌, Some, All, map, codes, ⊤}
 use Rattle.std.specs.Fmt.{decimal}
 use Rattle.casper_words.specs.Crew.{IsClient}
 use Rattle.casper_words.specs.Wants.{AreWants}
@@ -17,7 +17,7 @@ right_text may.Write = codes "w"
 abbrev pub want_text : Want → List ℕ
 want_text want = decimal want.page ++ 58 ∷ right_text want.right
 
--- the words of the line that asks for an event, where such a line is built: no line asks for another event yet
+-- the words of the line that asks for an event, where such a line is built: no line asks for a hold yet
 abbrev pub words_of_event : Event → List (List ℕ)
 words_of_event (event.Join who) = codes "join" ∷ decimal who ∷ []
 words_of_event (event.Read who page word) = codes "read" ∷ decimal who ∷ decimal page ∷ decimal word ∷ []
@@ -26,10 +26,10 @@ words_of_event (event.Acquire who wants) = codes "acquire" ∷ decimal who ∷ m
 words_of_event (event.Serve who) = codes "serve" ∷ decimal who ∷ []
 words_of_event (event.Depart who) = codes "depart" ∷ decimal who ∷ []
 words_of_event (event.Hold who wants) = []
-words_of_event (event.Stabilise who) = []
-words_of_event (event.WriteOut lead) = []
-words_of_event (event.Finish lead) = []
-words_of_event event.Settle = []
+words_of_event (event.Stabilise who) = codes "stabilise" ∷ decimal who ∷ []
+words_of_event (event.WriteOut lead) = codes "writeout" ∷ decimal lead ∷ []
+words_of_event (event.Finish lead) = codes "finish" ∷ decimal lead ∷ []
+words_of_event event.Settle = codes "settle" ∷ []
 words_of_event (event.Vanish who) = codes "vanish" ∷ decimal who ∷ []
 words_of_event (event.Lose who) = codes "lose" ∷ decimal who ∷ []
 
@@ -46,10 +46,10 @@ IsEvent (event.Acquire who wants) = IsClient who × AreAsked wants
 IsEvent (event.Serve who) = IsClient who
 IsEvent (event.Depart who) = IsClient who
 IsEvent (event.Hold who wants) = ⊥
-IsEvent (event.Stabilise who) = ⊥
-IsEvent (event.WriteOut lead) = ⊥
-IsEvent (event.Finish lead) = ⊥
-IsEvent event.Settle = ⊥
+IsEvent (event.Stabilise who) = IsClient who
+IsEvent (event.WriteOut lead) = IsClient lead
+IsEvent (event.Finish lead) = IsClient lead
+IsEvent event.Settle = ⊤
 IsEvent (event.Vanish who) = IsClient who
 IsEvent (event.Lose who) = IsClient who
 

@@ -2,6 +2,7 @@ pub mod Carrying
 pub mod Chain
 pub mod Comes
 pub mod Command
+pub mod CommandLaws
 pub mod Ending
 pub mod Grammar
 pub mod LineLaws

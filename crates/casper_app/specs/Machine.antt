@@ -12,7 +12,7 @@ use Rattle.casper_model.specs.State.{State, start}
 use Rattle.casper_model.specs.Step.{step}
 use Rattle.casper_model.specs.Vault.{VaultState}
 use Rattle.casper_model.specs.WholeHistory.{whole_of}
-use Rattle.casper_core.specs.Acting.{outside_of}
+use Rattle.casper_core.specs.Acting.{outside_in}
 use Rattle.casper_core.specs.Stepping.{happenings_of, failures_in}
 use Rattle.casper_laws.specs.HeldWordSteps.{is_turn_of}
 use Rattle.casper_laws.specs.OwnLists.{own_list_of, completed_calls, drops_pending, is_rolled_back}
@@ -78,7 +78,7 @@ calls_kept state (asked ∷ events) [] client calls = calls
 calls_kept state (asked ∷ events) (given ∷ answers) client calls =
     let recorded = calls_of state.shared.trail client in
     let left = cond (drops_pending state asked given client) recorded calls in
-    calls_kept (step state asked (outside_of given)).state events answers client (left ++ completed_calls asked given client)
+    calls_kept (step state asked (outside_in asked given)).state events answers client (left ++ completed_calls asked given client)
 
 -- so each client's recorded calls and then its pending ones are those that the answers complete, in their order, but those that were
 -- dropped

@@ -8,7 +8,7 @@ use Rattle.casper_app.specs.declared.replay.Replay.{Replay}
 use Rattle.casper_app.specs.Carrying.{Carries}
 use Rattle.casper_app.specs.Lines.{events_in, AreTaken}
 use Rattle.casper_app.specs.Outlet.{kept_of, written_of}
-use Rattle.casper_app.specs.Replay.{EndsFor, IsTold, WritesAnswers}
+use Rattle.casper_app.specs.Replay.{EndsFor, WritesAnswers}
 
 -- so many lines were skipped or answered, from the bytes left at first, and their answers were kept and written
 pub record Stands {V : Type 0} (tells : Bool) (faults : V → ℕ) (count : ℕ) (first left taken_first taken : Option (List ℕ)) (old new : Replay V) : Type 0 where
@@ -36,12 +36,11 @@ pub record IsReading {V : Type 0} (tells : Bool) (faults : V → ℕ) (first lef
   pub each : AreTaken lines
   pub few : length lines ≤ most_lines
   pub counted : IfOk result (λ count. length lines ≡ count)
-  pub ends : EndsFor (stop_of result) lines rest left
   pub given : List Answer
+  pub told : List Answer
+  pub ends : EndsFor (stop_of result) lines rest left (written_of old.outlet given) told
   pub carries : Carries tells faults (events_in lines) given old.core new.core
   pub kept : new.answers.items ≡ old.answers.items ++ kept_of old.outlet given
   pub out : List ℕ
   pub taken_is : taken ≡ append_known taken_first out
-  pub told : List Answer
-  pub told_is : IsTold (stop_of result) (written_of old.outlet given) told
   pub written : WritesAnswers (stop_of result) told out

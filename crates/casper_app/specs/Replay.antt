@@ -1,6 +1,6 @@
-use Rattle.std.specs.Prelude.{◌≡◌, ◌≢◌, ℕ, ◌+◌, ◌≤◌, List, [], ◌∷◌, ◌++◌, length, Option, None, Some, ◌⊎◌}
+use Rattle.std.specs.Prelude.{◌≡◌, ◌≢◌, ℕ, ◌+◌, ◌<◌, ◌≤◌, true, List, [], ◌∷◌, ◌++◌, length, Option, None, Some, ◌⊎◌}
 use Rattle.casper_io.specs.Lines.{TakesLine, TakesEnd, TakesTooLong, TakesPart}
-use Rattle.casper_io.specs.Reading.{most_lines, ReadsLines, TakesAny}
+use Rattle.casper_io.specs.Reading.{most_lines, ReadsLines}
 use Rattle.casper_io.specs.Told.{WhereTold}
 use Rattle.casper_trail.specs.declared.item.Item.{Item}
 use Rattle.casper_model.specs.declared.event.Event.{Event}
@@ -15,7 +15,7 @@ use Rattle.casper_app.specs.declared.schedule.Parsed.TheVariants as parsed
 use Rattle.casper_app.specs.Schedule.{parsed_line}
 use Rattle.casper_app.specs.Lines.{event_of_line, events_in, AreTaken}
 use Rattle.casper_app.specs.Outlet.{kept_of, written_of}
-use Rattle.casper_app.specs.Texts.{end_line}
+use Rattle.casper_app.specs.Texts.{end_line, tells_number}
 
 -- a line stands next that is too long, of no known form, or one too many
 abbrev pub TakesBadLine : ℕ → Option (List ℕ) → Option (List ℕ) → Type 0
@@ -40,17 +40,30 @@ cause_of (end.Done summary) = None
 cause_of (end.Legal entries) = None
 cause_of (end.Stopped cause) = Some cause
 
+-- a line stands next that asks for an event
+abbrev pub TakesAsking : Option (List ℕ) → Option (List ℕ) → Type 0
+TakesAsking before after = (line : List ℕ) × WhereTold before after (TakesLine line) × (asked : Event) × (event_of_line line ≡ Some asked)
+
+-- memory was short: before any line was read; or for the event of a line that stood next, or for its answer; or for the text of the
+-- answer to the last of these lines, which is the one that is not among those told. Nothing after that line was taken
+abbrev pub IsShort : List (List ℕ) → Option (List ℕ) → Option (List ℕ) → List Answer → List Answer → Type 0
+IsShort lines before after answers told =
+    ((lines ≡ []) × (before ≡ after) × (answers ≡ told))
+    ⊎ ((length lines < most_lines) × TakesAsking before after × (answers ≡ told))
+    ⊎ ((before ≡ after) × AsksLast lines × (last : Answer) × (answers ≡ told ++ last ∷ []))
+
 -- after these lines, which were skipped or answered, the reading came to the source's end, or it ended for a cause. Where the sink
--- failed at an answer, the last of the lines is the one that was answered, and nothing after it was taken
-abbrev pub EndsFor : Option Cause → List (List ℕ) → Option (List ℕ) → Option (List ℕ) → Type 0
-EndsFor None lines before after = WhereTold before after (TakesEnd [])
-EndsFor (Some cause.Usage) lines before after = ⊥
-EndsFor (Some cause.Read) lines before after = (part : List ℕ) × WhereTold before after (TakesPart part)
-EndsFor (Some cause.Write) lines before after = (before ≡ after) × AsksLast lines
-EndsFor (Some cause.Memory) lines before after = TakesAny before after
-EndsFor (Some (cause.BadLine number)) lines before after = (number ≡ length lines + 1) × TakesBadLine number before after
-EndsFor (Some (cause.Illegal at rule)) lines before after = ⊥
-EndsFor (Some (cause.Unbuilt number)) lines before after = (number ≡ length lines + 1) × TakesUnbuilt number before after
+-- failed at an answer, the last of the lines is the one that was answered, and nothing after it was taken. The answers that were to be
+-- written were told, up to the sink's fault; where memory was short for the text of the last one, that one was not
+abbrev pub EndsFor : Option Cause → List (List ℕ) → Option (List ℕ) → Option (List ℕ) → List Answer → List Answer → Type 0
+EndsFor None lines before after answers told = WhereTold before after (TakesEnd []) × (answers ≡ told)
+EndsFor (Some cause.Usage) lines before after answers told = ⊥
+EndsFor (Some cause.Read) lines before after answers told = ((part : List ℕ) × WhereTold before after (TakesPart part)) × (answers ≡ told)
+EndsFor (Some cause.Write) lines before after answers told = (before ≡ after) × AsksLast lines × (answers ≡ told)
+EndsFor (Some cause.Memory) lines before after answers told = IsShort lines before after answers told
+EndsFor (Some (cause.BadLine number)) lines before after answers told = (number ≡ length lines + 1) × TakesBadLine number before after × (answers ≡ told)
+EndsFor (Some (cause.Illegal at rule)) lines before after answers told = ⊥
+EndsFor (Some (cause.Unbuilt number)) lines before after answers told = (number ≡ length lines + 1) × TakesUnbuilt number before after × (answers ≡ told)
 
 -- these bytes are a front of a text, and not all of it
 abbrev pub IsCut : List ℕ → List ℕ → Type 0
@@ -80,9 +93,9 @@ WritesAnswers (Some (cause.BadLine number)) told out = out ≡ answer_lines told
 WritesAnswers (Some (cause.Illegal at rule)) told out = out ≡ answer_lines told
 WritesAnswers (Some (cause.Unbuilt number)) told out = out ≡ answer_lines told
 
--- the answers whose text was meant to be written: all, or all but the last, for whose text memory was short
-abbrev pub IsTold : Option Cause → List Answer → List Answer → Type 0
-IsTold said answers told = (answers ≡ told) ⊎ ((said ≡ Some cause.Memory) × (last : Answer) × (answers ≡ told ++ last ∷ []))
+-- what the last line tells is how the call was meant to end, unless memory is short for its text
+abbrev pub IsSaid : End → End → Type 0
+IsSaid meant said = (said ≡ meant) ⊎ ((said ≡ end.Stopped cause.Memory) × (tells_number meant ≡ true))
 
 -- a replay whose lines come to something, from the bytes left before to those left after it, with the answers that the events of its
 -- lines got
@@ -93,17 +106,18 @@ pub record IsReplay (Comes : ℕ → End → List Event → List Answer → List
   pub reads : ReadsLines before lines rest
   pub taken : AreTaken lines
   pub few : length lines ≤ most_lines
-  -- how the reading ended
-  pub said : End
-  pub ends : EndsFor (cause_of said) lines rest after
+  -- how the reading ended, and the answers whose text was meant to be written by then
+  pub meant : End
+  pub told : List Answer
+  pub ends : EndsFor (cause_of meant) lines rest after (written_of outlet given) told
   -- what the events that the lines ask for come to, with their answers and the trail
-  pub comes : Comes (length lines) said (events_in lines) given items
+  pub comes : Comes (length lines) meant (events_in lines) given items
   -- the answers were kept, and written, each before the next line was read; and then how it ended
   pub answered : answers ≡ kept_of outlet given
-  pub told : List Answer
-  pub told_is : IsTold (cause_of said) (written_of outlet given) told
   pub text : List ℕ
-  pub answers_written : WritesAnswers (cause_of said) told text
+  pub answers_written : WritesAnswers (cause_of meant) told text
+  pub said : End
+  pub said_is : IsSaid meant said
   pub ending : List ℕ
   pub ending_written : WritesFor said last (end_line said) ending
   pub written : out ≡ text ++ ending
@@ -113,6 +127,6 @@ pub record IsRefusal (refused : Cause) (before after : Option (List ℕ)) (answe
   pub unread : after ≡ before
   pub answered : answers ≡ []
   pub recorded : items ≡ []
-  pub said : Cause
-  pub cause : (said ≡ refused) ⊎ (said ≡ cause.Memory)
-  pub written : WritesFor (end.Stopped said) last (end_line (end.Stopped said)) out
+  pub said : End
+  pub said_is : IsSaid (end.Stopped refused) said
+  pub written : WritesFor said last (end_line said) out

@@ -104,6 +104,23 @@ vanish_of rest = option_map (λ who. event.Vanish who) (lone_client rest)
 abbrev pub lose_of : List (List ℕ) → Option Event
 lose_of rest = option_map (λ who. event.Lose who) (lone_client rest)
 
+-- what stands after `stabilise`: a client
+abbrev pub stabilise_of : List (List ℕ) → Option Event
+stabilise_of rest = option_map (λ who. event.Stabilise who) (lone_client rest)
+
+-- what stands after `writeout`: the lead of an association
+abbrev pub write_out_of : List (List ℕ) → Option Event
+write_out_of rest = option_map (λ who. event.WriteOut who) (lone_client rest)
+
+-- what stands after `finish`: the lead of an association
+abbrev pub finish_of : List (List ℕ) → Option Event
+finish_of rest = option_map (λ who. event.Finish who) (lone_client rest)
+
+-- what stands after `settle`: nothing
+abbrev pub settle_of : List (List ℕ) → Option Event
+settle_of [] = Some event.Settle
+settle_of _ = None
+
 -- the event that a verb and the words after it ask for
 abbrev pub event_of_verb : List ℕ → List (List ℕ) → Option Event
 event_of_verb verb rest =
@@ -114,7 +131,11 @@ event_of_verb verb rest =
     (if bytes_eq verb (codes "serve") then serve_of rest else
     (if bytes_eq verb (codes "depart") then depart_of rest else
     (if bytes_eq verb (codes "vanish") then vanish_of rest else
-    (if bytes_eq verb (codes "lose") then lose_of rest else None)))))))
+    (if bytes_eq verb (codes "lose") then lose_of rest else
+    (if bytes_eq verb (codes "stabilise") then stabilise_of rest else
+    (if bytes_eq verb (codes "writeout") then write_out_of rest else
+    (if bytes_eq verb (codes "finish") then finish_of rest else
+    (if bytes_eq verb (codes "settle") then settle_of rest else None)))))))))))
 
 -- the event that the words of a line ask for
 abbrev pub event_of : List (List ℕ) → Option Event
@@ -123,8 +144,7 @@ event_of (verb ∷ rest) = event_of_verb verb rest
 
 -- the first words of the lines that are not built yet, but for client numbers
 abbrev pub unbuilt_verbs : List (List ℕ)
-unbuilt_verbs =
-    codes "stabilise" ∷ codes "writeout" ∷ codes "finish" ∷ codes "settle" ∷ codes "reopen" ∷ []
+unbuilt_verbs = codes "reopen" ∷ []
 
 abbrev pub is_unbuilt_verb : List ℕ → Bool
 is_unbuilt_verb word = list_any (bytes_eq word) unbuilt_verbs

@@ -26,11 +26,16 @@ abbrev pub CarriesLine : {V : Type 0} → Bool → (V → ℕ) → List ℕ → 
 CarriesLine tells faults line None before after = MakesNone tells faults before after
 CarriesLine tells faults line (Some given) before after = (asked : Event) × (event_of_line line ≡ Some asked) × MakesStep tells faults asked given before after
 
+-- an answer, where there is one, is to be written
+abbrev pub IsDue : Outlet → Option Answer → Type 0
+IsDue outlet None = Unit {0}
+IsDue outlet (Some one) = written_of outlet (one ∷ []) ≡ one ∷ []
+
 -- what was written of the answer to an event: all of it; a front of it, where the sink failed; or nothing, where memory was short
 abbrev pub WritesAnswer : Outlet → Option Answer → Option (List ℕ) → Option (List ℕ) → Result (Unit {0}) Cause → Type 0
 WritesAnswer outlet given before after (Ok done) = IsSome given × (after ≡ append_known before (answer_lines (written_of outlet (option_to_list given))))
 WritesAnswer outlet given before after (Err cause.Write) = (one : Answer) × (given ≡ Some one) × (written_of outlet (one ∷ []) ≡ one ∷ []) × TakesFront before after (answer_line one)
-WritesAnswer outlet given before after (Err cause.Memory) = after ≡ before
+WritesAnswer outlet given before after (Err cause.Memory) = (after ≡ before) × IsDue outlet given
 WritesAnswer outlet given before after (Err cause.Usage) = ⊥
 WritesAnswer outlet given before after (Err cause.Read) = ⊥
 WritesAnswer outlet given before after (Err (cause.BadLine n)) = ⊥
@@ -45,13 +50,15 @@ pub record TakesEvent {V : Type 0} (tells : Bool) (faults : V → ℕ) (asked : 
   pub kept : new.answers.items ≡ old.answers.items ++ kept_of old.outlet (option_to_list given)
   pub writes : WritesAnswer old.outlet given before after result
 
--- what was written of the answer to a line, if it has one. A line that is refused has none
+-- what was written of the answer to a line, if it has one. A line that is refused has none. Memory is short only for a line that asks
+-- for an event
 abbrev pub WritesForLine : ℕ → List ℕ → Outlet → Option Answer → Option (List ℕ) → Option (List ℕ) → Result (Unit {0}) Cause → Type 0
 WritesForLine number line outlet given before after (Ok done) =
     IsTaken line × (is_some given ≡ is_some (event_of_line line)) × (after ≡ append_known before (answer_lines (written_of outlet (option_to_list given))))
 WritesForLine number line outlet given before after (Err cause.Write) =
     (one : Answer) × (given ≡ Some one) × (written_of outlet (one ∷ []) ≡ one ∷ []) × TakesFront before after (answer_line one)
-WritesForLine number line outlet given before after (Err cause.Memory) = after ≡ before
+WritesForLine number line outlet given before after (Err cause.Memory) =
+    (after ≡ before) × IsDue outlet given × (asked : Event) × (event_of_line line ≡ Some asked)
 WritesForLine number line outlet given before after (Err cause.Usage) = ⊥
 WritesForLine number line outlet given before after (Err cause.Read) = ⊥
 WritesForLine number line outlet given before after (Err (cause.BadLine n)) = (n ≡ number) × (parsed_line line ≡ parsed.Bad) × (given ≡ None) × (after ≡ before)

@@ -1,4 +1,4 @@
-use Rattle.std.specs.Prelude.{ℕ, List, [], ◌∷◌, ◌++◌, codes}
+use Rattle.std.specs.Prelude.{ℕ, Bool, true, false, List, [], ◌∷◌, ◌++◌, codes}
 use Rattle.std.specs.Fmt.{decimal}
 use Rattle.casper_report.specs.Summary.{summary_line}
 use Rattle.casper_report.specs.Texts.{as_line, joined, word_line}
@@ -30,3 +30,15 @@ abbrev pub end_line : End → List ℕ
 end_line (end.Done summary) = summary_line summary
 end_line (end.Legal entries) = word_line (codes "legal") entries
 end_line (end.Stopped cause) = cause_line cause
+
+-- whether the line that tells how a call ended tells a number: its text takes memory, and each other one is constant
+abbrev pub tells_number : End → Bool
+tells_number (end.Done summary) = true
+tells_number (end.Legal entries) = true
+tells_number (end.Stopped cause.Usage) = false
+tells_number (end.Stopped cause.Read) = false
+tells_number (end.Stopped cause.Write) = false
+tells_number (end.Stopped cause.Memory) = false
+tells_number (end.Stopped (cause.BadLine n)) = true
+tells_number (end.Stopped (cause.Illegal at which)) = true
+tells_number (end.Stopped (cause.Unbuilt n)) = true

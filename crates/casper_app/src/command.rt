@@ -1,6 +1,6 @@
 ghost use Rattle.std.specs.Prelude.{◌≡◌, ◌⊎◌, IfOk, IfErr};
 
-use crate::Cause;
+use crate::{Cause, Outlet};
 use casper_text::{Word, number};
 use casper_words::Page;
 
@@ -24,8 +24,8 @@ pub struct Opening {
 /// What the words ask for.
 #[derive(Clone, Copy, Debug, PartialEq, Eq)]
 pub enum Command {
-    /// The lines of a schedule are answered, over a store that is opened so.
-    Replay(Opening),
+    /// The lines of a schedule are answered, over a store that is opened so, and this becomes of the answers.
+    Replay(Opening, Outlet),
     /// The text of a trail is audited.
     Audit,
 }
@@ -111,13 +111,14 @@ impl Command {
             ⊎ (cause ≡ Cause.Unbuilt 0)) }
     {
         match number(text) {
-            Some(pages) if 1 <= pages && pages <= u64::from(Page::MOST) => Ok(Command::Replay(
-                Opening {
+            Some(pages) if 1 <= pages && pages <= u64::from(Page::MOST) => {
+                let opening = Opening {
                     pages: pages as u32,
                     cache: MOST_HELD,
                     entries: MOST_ENTRIES,
-                },
-            )),
+                };
+                Ok(Command::Replay(opening, Outlet::Written))
+            }
             _ => Err(Cause::Usage),
         }
     }

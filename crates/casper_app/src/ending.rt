@@ -1,6 +1,6 @@
-ghost use Rattle.std.specs.Prelude.{◌≡◌, ◌≢◌, ◌⊎◌, ◌≤◌, IfOk};
+ghost use Rattle.std.specs.Prelude.{◌≡◌, ◌≢◌, ◌⊎◌, ◌≤◌, not, true, false, is_some, IfOk, IfSome};
 ghost use Rattle.casper_words.specs.Count.{FaultCountRose};
-ghost use Rattle.casper_app.specs.Texts.{end_line, cause_line, rule_word};
+ghost use Rattle.casper_app.specs.Texts.{end_line, cause_line, rule_word, tells_number};
 ghost use Rattle.casper_app.specs.Ending.{EndsWith, WritesLast};
 
 use crate::{Cause, End};
@@ -10,8 +10,9 @@ use casper_report::summary_text;
 use casper_words::Memory;
 use std::alloc::Global;
 
-/// Writes the line that tells how a call ended, and answers how it ended after all.
+/// Writes the line that tells how a call ended, and answers how it ended after all. A line that tells no number takes no memory.
 pub(crate) fn write_ending<K: Sink>(alloc: Global, sink: &mut K, meant: End) -> End
+    requires { (meant ≡ End.Stopped Cause.Write) ⊎ (K.is_broken sink.old ≡ false) }
     ensures ends { EndsWith meant result (K.taken sink.old) (K.taken sink.new) }
     ensures fault { result ≡ End.Stopped Cause.Write
         → (meant ≡ End.Stopped Cause.Write)
@@ -20,10 +21,15 @@ pub(crate) fn write_ending<K: Sink>(alloc: Global, sink: &mut K, meant: End) -> 
         ⊎ (K.faults sink.new ≡ K.faults sink.old) }
     ensures end { (result ≡ meant) ⊎ (result ≡ End.Stopped Cause.Write)
         ⊎ (result ≡ End.Stopped Cause.Memory) }
+    ensures constant { tells_number meant ≡ false
+        → (result ≡ meant) ⊎ (result ≡ End.Stopped Cause.Write) }
     ensures untouched { meant ≡ End.Stopped Cause.Write → K.faults sink.new ≡ K.faults sink.old }
 {
     if let End::Stopped(Cause::Write) = meant {
         return meant;
+    }
+    if let Some(line) = constant_line(&meant) {
+        return write_last(sink, line, meant);
     }
     match end_text(alloc, &meant) {
         Ok(text) => write_last(sink, text.as_slice(), meant),
@@ -31,8 +37,25 @@ pub(crate) fn write_ending<K: Sink>(alloc: Global, sink: &mut K, meant: End) -> 
     }
 }
 
-/// The line that tells how a call ended.
+/// The line that tells how a call ended, where it tells no number.
+fn constant_line(said: &End) -> Option<&'static [u8]>
+    ensures line { IfSome result (λ line. line.now ≡ end_line said.now) }
+    ensures exactly { is_some result ≡ not (tells_number said.now) }
+{
+    let line: &[u8] = match said {
+        End::Stopped(Cause::Usage) => b"usage\n",
+        End::Stopped(Cause::Read) => b"read fault\n",
+        End::Stopped(Cause::Write) => b"",
+        End::Stopped(Cause::Memory) => b"no memory\n",
+        End::Done(_) | End::Legal(_) => return None,
+        End::Stopped(Cause::BadLine(_) | Cause::Illegal { .. } | Cause::Unbuilt(_)) => return None,
+    };
+    Some(line)
+}
+
+/// The line that tells how a call ended, where it tells a number.
 fn end_text(alloc: Global, said: &End) -> Result<Vec<u8>, Memory>
+    requires { tells_number said.now ≡ true }
     ensures { IfOk result (λ text. text.items ≡ end_line said.now) }
 {
     match said {
@@ -42,15 +65,13 @@ fn end_text(alloc: Global, said: &End) -> Result<Vec<u8>, Memory>
     }
 }
 
-/// The line for a status other than 0, which comes last.
+/// The line for a cause that tells a number, which comes last.
 fn cause_text(alloc: Global, cause: &Cause) -> Result<Vec<u8>, Memory>
+    requires { tells_number (End.Stopped cause.now) ≡ true }
     ensures { IfOk result (λ text. text.items ≡ cause_line cause.now) }
 {
     let text = match cause {
-        Cause::Write => String::new(alloc),
-        Cause::Usage => format!(in alloc; "usage\n")?,
-        Cause::Read => format!(in alloc; "read fault\n")?,
-        Cause::Memory => format!(in alloc; "no memory\n")?,
+        Cause::Usage | Cause::Read | Cause::Write | Cause::Memory => unreachable!(),
         Cause::BadLine(line) => format!(in alloc; "bad line {line}\n")?,
         Cause::Illegal { at, rule } => format!(in alloc; "bad {at} {}\n", rule_text(*rule))?,
         Cause::Unbuilt(line) => format!(in alloc; "unbuilt {line}\n")?,
@@ -71,6 +92,7 @@ fn rule_text(rule: AuditRule) -> &'static str
 
 /// Writes the last bytes of a call, for an end that stands unless the sink fails.
 fn write_last<K: Sink>(sink: &mut K, bytes: &[u8], said: End) -> End
+    requires { K.is_broken sink.old ≡ false }
     ensures written { WritesLast said result bytes.now (K.taken sink.old) (K.taken sink.new) }
     ensures fault { result ≡ End.Stopped Cause.Write
         → (said ≡ End.Stopped Cause.Write)

@@ -1,3 +1,4 @@
+ghost use Rattle.casper_app.specs.CommandLaws.{WordsAreSorted};
 ghost use Rattle.casper_app.specs.Grammar.{EventsAreReadBack, EventsHaveOneText};
 ghost use Rattle.casper_app.specs.LineLaws.{LinesAreSorted, ReplaysHaveOneText, AuditsHaveOneText};
 ghost use Rattle.casper_app.specs.Machine.{UnfailingSessions, LinesNameClients, SessionsAreLegal, SessionsKeepCalls, SessionsKeepCallsButDropped};
@@ -5,14 +6,15 @@ ghost use Rattle.casper_app.specs.Chain.{PlayedSessionsAreAChain, TotalsAreOfAll
 
 /// The lines of a schedule and the events that they ask for determine each other. Each line is one of these and no other: it is
 /// skipped, as a comment or without a word; it has the words of an event; it has those of none and begins with a client's number or
-/// the verb of a line that is not built yet; or it is bad. And one pair of words asks for a replay over a store in memory, and one
-/// word for an audit. It does nothing.
+/// the verb of a line that is not built yet; or it is bad. One pair of words asks for a replay over a store in memory, and one word for
+/// an audit; and each list of words is one of these, or is that of a command that is not built yet, or is no command. It does nothing.
 pub fn schedule_laws()
     ensures read_back { EventsAreReadBack }
     ensures one_text { EventsHaveOneText }
     ensures sorted { LinesAreSorted }
     ensures replays { ReplaysHaveOneText }
     ensures audits { AuditsHaveOneText }
+    ensures commands { WordsAreSorted }
 {}
 
 /// A session is the machine's run, with what the outside did read off the answers: where no answer tells of a fault, the answers and

@@ -18,4 +18,5 @@ pub use cause::Cause;
 pub use command::{Command, Opening};
 pub use end::End;
 pub use laws::{chain_laws, schedule_laws, session_laws};
-pub use top::{Ended, run};
+pub use outlet::Outlet;
+pub use top::{Ended, carry_out, run};

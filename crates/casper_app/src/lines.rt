@@ -1,4 +1,4 @@
-ghost use Rattle.std.specs.Prelude.{◌≡◌, ◌⊎◌, ◌+◌, ◌<◌, ◌≤◌, Err};
+ghost use Rattle.std.specs.Prelude.{◌≡◌, ◌⊎◌, ◌+◌, ◌<◌, ◌≤◌, false, Err};
 ghost use Rattle.casper_words.specs.Count.{FaultCountRose};
 ghost use Rattle.casper_app.specs.Reading.{IsReading};
 
@@ -18,7 +18,9 @@ pub(crate) fn take_lines<V: Vault, S: Source, K: Sink>(
     source: &mut S,
     sink: &mut K,
 ) -> Result<u32, Cause>
-    requires { replay.old.core.calls ≡ 0 }
+    requires calls { replay.old.core.calls ≡ 0 }
+    requires source { S.is_broken source.old ≡ false }
+    requires sink { K.is_broken sink.old ≡ false }
     ensures reading { IsReading V.tells V.faults (S.left source.old) (S.left source.new)
         (K.taken sink.old) (K.taken sink.new)
         replay.old replay.new result }
@@ -29,6 +31,7 @@ pub(crate) fn take_lines<V: Vault, S: Source, K: Sink>(
     ensures source_stands { (result ≡ Err Cause.Read)
         ⊎ (S.faults source.new ≡ S.faults source.old) }
     ensures sink_stands { (result ≡ Err Cause.Write) ⊎ (K.faults sink.new ≡ K.faults sink.old) }
+    ensures sink_whole { (result ≡ Err Cause.Write) ⊎ (K.is_broken sink.new ≡ false) }
 {
     let _mark: Option<Mark> = None;
     for lines in 0..MOST_LINES {

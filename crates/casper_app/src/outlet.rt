@@ -3,7 +3,7 @@ ghost use Rattle.casper_app.specs.Outlet.{keeps as keeps_in, writes as writes_in
 
 /// What becomes of the answers.
 #[derive(Clone, Copy, Debug, PartialEq, Eq)]
-pub(crate) enum Outlet {
+pub enum Outlet {
     /// Each is written before the next line is read, and kept.
     Written,
     /// They are kept alone.

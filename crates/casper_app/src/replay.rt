@@ -3,7 +3,7 @@ ghost use Rattle.casper_core.specs.Stepping.{IsBuilt};
 ghost use Rattle.casper_app.specs.Carrying.{MakesStep, MakesNone, summary_in};
 ghost use Rattle.casper_app.specs.Outlet.{keeps, kept_of};
 
-use crate::outlet::Outlet;
+use crate::Outlet;
 use casper_core::{Core, StepFault};
 use casper_disk::Vault;
 use casper_model::Event;

@@ -1,5 +1,5 @@
 use casper_io::Line;
-use casper_text::Span;
+use casper_text::Places;
 use casper_words::Memory;
 use std::alloc::Global;
 
@@ -9,18 +9,19 @@ pub(crate) struct Room {
     /// The line that was read last.
     pub(crate) line: Line,
     /// The places of its words.
-    pub(crate) spans: Vec<Span>,
-    /// The text of the answer that was written last.
+    pub(crate) places: Places,
+    /// The text of an answer that tells a number or clients.
     pub(crate) text: Vec<u8>,
 }
 
 impl Room {
-    /// Room for a line, and lists that grow with the lines that come.
+    /// Room for a line and its words, and for a text that grows with the answers that come.
     pub(crate) fn new(alloc: Global) -> Result<Room, Memory> {
         let line = Line::new(alloc)?;
+        let places = Places::new(alloc)?;
         Ok(Room {
             line,
-            spans: Vec::new(alloc),
+            places,
             text: Vec::new(alloc),
         })
     }

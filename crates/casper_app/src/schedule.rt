@@ -1,10 +1,10 @@
-ghost use Rattle.std.specs.Prelude.{◌≡◌, [], ◌∷◌, ◌<◌, length, map, position, All, IfOk, IfSome};
+ghost use Rattle.std.specs.Prelude.{◌≡◌, ℕ, List, [], ◌∷◌, ◌<◌, ◌≤◌, length, map, position, All, IfSome};
 ghost use Rattle.casper_text.specs.Span.{IsWithin, word_at};
-ghost use Rattle.casper_app.specs.Schedule.{client_of as client_in, lone_client as lone_client_in, place_of as place_in, right_of as right_in, want_of as want_in, wants_of as wants_in, rising_wants, is_colon, join_of, read_of, write_of, acquire_of, serve_of, depart_of, vanish_of, lose_of, event_of as event_of_line, is_unbuilt as begins_unbuilt, is_unbuilt_verb as among_unbuilt, is_comment as begins_comment, parsed_words as words_parsed, parsed_line as line_parsed};
+ghost use Rattle.casper_app.specs.Schedule.{client_of as client_in, lone_client as lone_client_in, place_of as place_in, right_of as right_in, want_of as want_in, wants_of as wants_in, rising_wants, is_colon, join_of, read_of, write_of, acquire_of, serve_of, depart_of, vanish_of, lose_of, stabilise_of, write_out_of, finish_of, settle_of, event_of as event_of_line, is_unbuilt as begins_unbuilt, is_unbuilt_verb as among_unbuilt, is_comment as begins_comment, parsed_words as words_parsed, parsed_line as line_parsed};
 
 use casper_model::Event;
-use casper_text::{Span, number, small_number, words_into};
-use casper_words::{Memory, Page, Right, Want, Wants, Who};
+use casper_text::{Places, Span, number, small_number};
+use casper_words::{Page, Right, Want, Wants, Who};
 
 /// What a line of a schedule is.
 #[derive(Clone, Copy, Debug, PartialEq, Eq)]
@@ -19,17 +19,18 @@ pub enum Parsed {
     Bad,
 }
 
-/// Reads a line, and puts the places of its words into the list. Memory is asked for only where the list has no room for them.
-pub(crate) fn parse_line(line: &[u8], spans: &mut Vec<Span>) -> Result<Parsed, Memory>
-    ensures { IfOk result (λ parsed. parsed ≡ line_parsed line.now) }
+/// Reads a line of at most 1,024 bytes. The places of its words stand in the room that there is, so it takes no memory.
+pub(crate) fn parse_line(line: &[u8], places: &mut Places) -> Parsed
+    requires { length line.now ≤ 1024 }
+    ensures { result ≡ line_parsed line.now }
 {
-    if !words_into(line, spans)? {
-        return Ok(Parsed::Bad);
+    if !places.split(line) {
+        return Parsed::Bad;
     }
     if is_comment(line) {
-        return Ok(Parsed::Skip);
+        return Parsed::Skip;
     }
-    Ok(parse_words(line, spans))
+    parse_words(line, places.as_slice())
 }
 
 fn is_comment(line: &[u8]) -> bool
@@ -76,6 +77,14 @@ fn event_of(line: &[u8], spans: &[Span]) -> Option<Event>
         vanish(line, rest)
     } else if verb == b"lose".as_slice() {
         lose(line, rest)
+    } else if verb == b"stabilise".as_slice() {
+        stabilise(line, rest)
+    } else if verb == b"writeout".as_slice() {
+        write_out(line, rest)
+    } else if verb == b"finish".as_slice() {
+        finish(line, rest)
+    } else if verb == b"settle".as_slice() {
+        settle(rest)
     } else {
         None
     }
@@ -114,6 +123,36 @@ fn lose(line: &[u8], rest: &[Span]) -> Option<Event>
     ensures { result ≡ lose_of (map (word_at line.now) rest.now) }
 {
     Some(Event::Lose(lone_client(line, rest)?))
+}
+
+fn stabilise(line: &[u8], rest: &[Span]) -> Option<Event>
+    requires { All (IsWithin line.now) rest.now }
+    ensures { result ≡ stabilise_of (map (word_at line.now) rest.now) }
+{
+    Some(Event::Stabilise(lone_client(line, rest)?))
+}
+
+fn write_out(line: &[u8], rest: &[Span]) -> Option<Event>
+    requires { All (IsWithin line.now) rest.now }
+    ensures { result ≡ write_out_of (map (word_at line.now) rest.now) }
+{
+    Some(Event::WriteOut(lone_client(line, rest)?))
+}
+
+fn finish(line: &[u8], rest: &[Span]) -> Option<Event>
+    requires { All (IsWithin line.now) rest.now }
+    ensures { result ≡ finish_of (map (word_at line.now) rest.now) }
+{
+    Some(Event::Finish(lone_client(line, rest)?))
+}
+
+fn settle(rest: &[Span]) -> Option<Event>
+    ensures { (line : List ℕ) → result ≡ settle_of (map (word_at line) rest.now) }
+{
+    match rest {
+        [] => Some(Event::Settle),
+        _ => None,
+    }
 }
 
 fn read(line: &[u8], rest: &[Span]) -> Option<Event>
@@ -244,9 +283,5 @@ fn is_unbuilt(first: &[u8]) -> bool
 fn is_unbuilt_verb(first: &[u8]) -> bool
     ensures { result ≡ among_unbuilt first.now }
 {
-    first == b"stabilise".as_slice()
-        || first == b"writeout".as_slice()
-        || first == b"finish".as_slice()
-        || first == b"settle".as_slice()
-        || first == b"reopen".as_slice()
+    first == b"reopen".as_slice()
 }

@@ -1,4 +1,4 @@
-ghost use Rattle.std.specs.Prelude.{◌≡◌, ◌≤◌, [], ◌⊎◌, IsTrue, IfSome, IfOk};
+ghost use Rattle.std.specs.Prelude.{◌≡◌, ◌≤◌, false, [], ◌⊎◌, IsTrue, IfSome, IfOk};
 ghost use Rattle.casper_core.specs.Represents.{Represents};
 ghost use Rattle.casper_core.specs.Shaped.{RepresentsButWords};
 ghost use Rattle.casper_model.specs.State.{State};
@@ -11,10 +11,9 @@ ghost use Rattle.casper_app.specs.Ending.{IsRun, IsLegalRun, RunsCommand, IsLega
 use crate::command::{Command, MOST_ENTRIES, Opening};
 use crate::ending::write_ending;
 use crate::lines::take_lines;
-use crate::outlet::Outlet;
 use crate::replay::Replay;
 use crate::room::Room;
-use crate::{Cause, End};
+use crate::{Cause, End, Outlet};
 use casper_audit::{AuditFault, Verdict, audit};
 use casper_core::Core;
 use casper_disk::{MemVault, Vault};
@@ -43,6 +42,8 @@ pub struct Ended {
 ///
 /// Where the words are refused nothing is read. Where the call does not end with status 0 the last line tells why.
 pub fn run<S: Source, K: Sink>(alloc: Global, words: &[Word], source: &mut S, sink: &mut K) -> Ended
+    requires source { S.is_broken source.old ≡ false }
+    requires sink { K.is_broken sink.old ≡ false }
     // What was read, answered, recorded and written.
     ensures run { IsRun words.now (S.left source.old) (S.left source.new) (K.taken sink.old)
         (K.taken sink.new)
@@ -50,15 +51,15 @@ pub fn run<S: Source, K: Sink>(alloc: Global, words: &[Word], source: &mut S, si
     // What was recorded is one legal history of a plain page array, and so it is with the calls that are pending after it.
     ensures legal { IsLegalRun words.now
         (S.left source.old) result.answers.items result.trail.items }
-    // Status 0 says that the input was read to its end. A fault of the input or of the output ends the call: that of the
-    // input with status 3, unless the output fails or memory is short at the last line, and that of the output with status 4.
+    // Status 0 says that the input was read to its end. A fault of the input or of the output ends the call, and nothing more is
+    // asked of what failed: that of the input ends with status 3, unless the output fails, and that of the output with status 4.
     ensures end { IsDone result.last → IfSome (S.left source.new) (λ left. left ≡ []) }
     ensures status { result.status ≡ status_of_end result.last }
     ensures read_fault { result.last ≡ End.Stopped Cause.Read
         → FaultCountRose (S.faults source.old) (S.faults source.new) }
     ensures source_stands { (result.last ≡ End.Stopped Cause.Read)
         ⊎ (result.last ≡ End.Stopped Cause.Write)
-        ⊎ (result.last ≡ End.Stopped Cause.Memory) ⊎ (S.faults source.new ≡ S.faults source.old) }
+        ⊎ (S.faults source.new ≡ S.faults source.old) }
     ensures write_fault { result.last ≡ End.Stopped Cause.Write
         → FaultCountRose (K.faults sink.old) (K.faults sink.new) }
     ensures sink_stands { (result.last ≡ End.Stopped Cause.Write)
@@ -70,14 +71,16 @@ pub fn run<S: Source, K: Sink>(alloc: Global, words: &[Word], source: &mut S, si
     }
 }
 
-/// Carries a command out.
-fn carry_out<S: Source, K: Sink>(
+/// Does what a command says, as `run` does what its words ask.
+pub fn carry_out<S: Source, K: Sink>(
     alloc: Global,
     command: &Command,
     source: &mut S,
     sink: &mut K,
 ) -> Ended
-    requires { IsCommand command.now }
+    requires command { IsCommand command.now }
+    requires source { S.is_broken source.old ≡ false }
+    requires sink { K.is_broken sink.old ≡ false }
     ensures run { RunsCommand command.now (S.left source.old) (S.left source.new) (K.taken sink.old)
         (K.taken sink.new)
         result.answers.items result.trail.items result.last }
@@ -89,7 +92,7 @@ fn carry_out<S: Source, K: Sink>(
         → FaultCountRose (S.faults source.old) (S.faults source.new) }
     ensures source_stands { (result.last ≡ End.Stopped Cause.Read)
         ⊎ (result.last ≡ End.Stopped Cause.Write)
-        ⊎ (result.last ≡ End.Stopped Cause.Memory) ⊎ (S.faults source.new ≡ S.faults source.old) }
+        ⊎ (S.faults source.new ≡ S.faults source.old) }
     ensures write_fault { result.last ≡ End.Stopped Cause.Write
         → FaultCountRose (K.faults sink.old) (K.faults sink.new) }
     ensures sink_stands { (result.last ≡ End.Stopped Cause.Write)
@@ -97,13 +100,17 @@ fn carry_out<S: Source, K: Sink>(
 {
     let _mark: Option<Mark> = None;
     match command {
-        Command::Replay(opening) => replay_in_memory(alloc, opening, source, sink),
+        Command::Replay(opening, outlet) => {
+            replay_in_memory(alloc, opening, *outlet, source, sink)
+        }
         Command::Audit => audit_source(alloc, source, sink),
     }
 }
 
 /// Audits the text of a trail that the source gives.
 fn audit_source<S: Source, K: Sink>(alloc: Global, source: &mut S, sink: &mut K) -> Ended
+    requires source { S.is_broken source.old ≡ false }
+    requires sink { K.is_broken sink.old ≡ false }
     ensures run { RunsAudit (S.left source.old) (S.left source.new) (K.taken sink.old)
         (K.taken sink.new)
         result.answers.items result.trail.items result.last }
@@ -113,7 +120,7 @@ fn audit_source<S: Source, K: Sink>(alloc: Global, source: &mut S, sink: &mut K)
         → FaultCountRose (S.faults source.old) (S.faults source.new) }
     ensures source_stands { (result.last ≡ End.Stopped Cause.Read)
         ⊎ (result.last ≡ End.Stopped Cause.Write)
-        ⊎ (result.last ≡ End.Stopped Cause.Memory) ⊎ (S.faults source.new ≡ S.faults source.old) }
+        ⊎ (S.faults source.new ≡ S.faults source.old) }
     ensures write_fault { result.last ≡ End.Stopped Cause.Write
         → FaultCountRose (K.faults sink.old) (K.faults sink.new) }
     ensures sink_stands { (result.last ≡ End.Stopped Cause.Write)
@@ -152,14 +159,17 @@ fn end_of(found: &Result<Verdict, AuditFault>) -> End
 fn replay_in_memory<S: Source, K: Sink>(
     alloc: Global,
     opening: &Opening,
+    outlet: Outlet,
     source: &mut S,
     sink: &mut K,
 ) -> Ended
-    requires { IsOpening opening.now }
-    ensures run { RunsInMemory opening.now (S.left source.old) (S.left source.new)
+    requires opening { IsOpening opening.now }
+    requires source { S.is_broken source.old ≡ false }
+    requires sink { K.is_broken sink.old ≡ false }
+    ensures run { RunsInMemory opening.now outlet (S.left source.old) (S.left source.new)
         (K.taken sink.old) (K.taken sink.new)
         result.answers.items result.trail.items result.last }
-    ensures legal { IsLegalInMemory opening.now
+    ensures legal { IsLegalInMemory opening.now outlet
         (S.left source.old) result.answers.items result.trail.items }
     ensures end { IsDone result.last → IfSome (S.left source.new) (λ left. left ≡ []) }
     ensures status { result.status ≡ status_of_end result.last }
@@ -167,7 +177,7 @@ fn replay_in_memory<S: Source, K: Sink>(
         → FaultCountRose (S.faults source.old) (S.faults source.new) }
     ensures source_stands { (result.last ≡ End.Stopped Cause.Read)
         ⊎ (result.last ≡ End.Stopped Cause.Write)
-        ⊎ (result.last ≡ End.Stopped Cause.Memory) ⊎ (S.faults source.new ≡ S.faults source.old) }
+        ⊎ (S.faults source.new ≡ S.faults source.old) }
     ensures write_fault { result.last ≡ End.Stopped Cause.Write
         → FaultCountRose (K.faults sink.old) (K.faults sink.new) }
     ensures sink_stands { (result.last ≡ End.Stopped Cause.Write)
@@ -175,7 +185,7 @@ fn replay_in_memory<S: Source, K: Sink>(
 {
     let _mark: Option<Mark> = None;
     match core_in_memory(alloc, opening) {
-        Ok(core) => replay(alloc, core, Outlet::Written, source, sink).0,
+        Ok(core) => replay(alloc, core, outlet, source, sink).0,
         Err(Memory) => {
             let trail = Trail::new(alloc, opening.entries);
             end_unread(alloc, Cause::Memory, trail, sink)
@@ -204,7 +214,9 @@ fn replay<V: Vault, S: Source, K: Sink>(
     source: &mut S,
     sink: &mut K,
 ) -> (Ended, V)
-    requires { core.calls ≡ 0 }
+    requires calls { core.calls ≡ 0 }
+    requires source { S.is_broken source.old ≡ false }
+    requires sink { K.is_broken sink.old ≡ false }
     ensures run { IsTrue V.tells → (start : State) → Represents start core
         → RunsReplay (ComesFrom start) outlet (V.faults core.vault) (V.faults result.1)
         (S.left source.old) (S.left source.new) (K.taken sink.old)
@@ -219,7 +231,7 @@ fn replay<V: Vault, S: Source, K: Sink>(
         → FaultCountRose (S.faults source.old) (S.faults source.new) }
     ensures source_stands { (result.0.last ≡ End.Stopped Cause.Read)
         ⊎ (result.0.last ≡ End.Stopped Cause.Write)
-        ⊎ (result.0.last ≡ End.Stopped Cause.Memory) ⊎ (S.faults source.new ≡ S.faults source.old) }
+        ⊎ (S.faults source.new ≡ S.faults source.old) }
     ensures write_fault { result.0.last ≡ End.Stopped Cause.Write
         → FaultCountRose (K.faults sink.old) (K.faults sink.new) }
     ensures sink_stands { (result.0.last ≡ End.Stopped Cause.Write)
@@ -252,6 +264,7 @@ fn replay<V: Vault, S: Source, K: Sink>(
 
 /// Ends a call that has read and answered nothing, with the trail that there is.
 fn end_unread<K: Sink>(alloc: Global, cause: Cause, trail: Trail, sink: &mut K) -> Ended
+    requires { K.is_broken sink.old ≡ false }
     ensures ends { EndsWith (End.Stopped cause) result.last (K.taken sink.old) (K.taken sink.new) }
     ensures answers { result.answers.items ≡ [] }
     ensures trail { result.trail.items ≡ trail.items }

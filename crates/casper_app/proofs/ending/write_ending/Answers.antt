@@ -10,7 +10,7 @@ returns-in-Stopped-Write-clause-ends g c =
     let meant : c.args.meant ≡ end.Stopped cause.Write = c.in-Stopped-Write.is ∙ ap end.Stopped write in
     record {
       said = end.Stopped cause.Write;
-      cause = inl (sym meant);
+      said_is = inl (sym meant);
       out = [];
       taken = sym (append_known-nil (g.K.Sink.taken c.args.sink.now));
       written = inl (meant, refl);

@@ -1,5 +1,6 @@
 use Rattle.casper_app.proofs.GrammarLemmas.{events_are_read_back, events_have_one_text}
 use Rattle.casper_app.proofs.LineLawLemmas.{lines_are_sorted, replays_have_one_text, audits_have_one_text}
+use Rattle.casper_app.proofs.CommandLawLemmas.{words_are_sorted}
 use Rattle.casper_app.proofs.laws.schedule_laws.Goals as goal
 
 pub returns-clause-read_back : goal.returns-clause-read_back
@@ -16,3 +17,6 @@ returns-clause-replays c = replays_have_one_text
 
 pub returns-clause-audits : goal.returns-clause-audits
 returns-clause-audits c = audits_have_one_text
+
+pub returns-clause-commands : goal.returns-clause-commands
+returns-clause-commands c = words_are_sorted

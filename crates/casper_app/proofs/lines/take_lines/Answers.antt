@@ -4,7 +4,7 @@ use Rattle.casper_app.proofs.ReadingLemmas.{stands_first, stands_more, reading_f
 use Rattle.casper_app.proofs.lines.take_lines.Goals as goal
 
 pub loop-lines-init : goal.loop-lines-init
-loop-lines-init g c = (stands_first g.V.Vault.tells g.V.Vault.faults _ _ c.args.replay.now c.requires, refl, refl)
+loop-lines-init g c = (stands_first g.V.Vault.tells g.V.Vault.faults _ _ c.args.replay.now c.requires.calls, refl, refl, c.requires.source, c.requires.sink)
 
 pub returns-in_err-read_line-clause-reading : goal.returns-in_err-read_line-clause-reading
 returns-in_err-read_line-clause-reading g c =
@@ -27,6 +27,8 @@ loop-lines-preserved g c = (
       c.in_ok-take_line.ensures.takes,
   (elim c.in_ok-read_line.ensures.source_stands [ inl failed ↦ (let none = failed in cc) | inr same ↦ same ]) ∙ c.loop-lines.invariant.1,
   (elim c.in_ok-take_line.ensures.sink_stands [ inl failed ↦ (let none = failed in cc) | inr same ↦ same ]) ∙ c.loop-lines.invariant.2,
+  elim c.in_ok-read_line.ensures.source_whole [ inl failed ↦ (let none = failed in cc) | inr whole ↦ whole ],
+  elim c.in_ok-take_line.ensures.sink_whole [ inl failed ↦ (let none = failed in cc) | inr whole ↦ whole ],
 )
 
 pub returns-in_err-read_line-2-clause-reading : goal.returns-in_err-read_line-2-clause-reading

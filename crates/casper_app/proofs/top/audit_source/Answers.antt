@@ -1,5 +1,6 @@
-use Rattle.std.proofs.Common.{◌∙◌, sym, inl, inr}
-use Rattle.casper_app.proofs.RunLemmas.{audit_done, audit_read, audit_writes_not, done_meant, read_meant, audit_stands, runs_audit, end_by}
+use Rattle.std.proofs.Common.{◌∙◌, ap, sym, inl, inr}
+use Rattle.casper_app.specs.Ending.{end_of_audit}
+use Rattle.casper_app.proofs.RunLemmas.{audit_done, audit_read, audit_writes_not, done_meant, read_meant, source_by, runs_audit, end_by}
 use Rattle.casper_app.proofs.top.audit_source.Goals as goal
 
 pub returns-clause-run : goal.returns-clause-run
@@ -19,7 +20,9 @@ returns-clause-read_fault g c read =
 
 pub returns-clause-source_stands : goal.returns-clause-source_stands
 returns-clause-source_stands g c =
-    audit_stands c.audit-found.result c.write_ending-last.result _ _ (end_by _ _ _ c.end_of.ensures c.write_ending-last.ensures.end) c.audit-found.ensures.source_stands
+    source_by _ _ _ _
+    (elim c.audit-found.ensures.source_stands [ inl failed ↦ inl (c.end_of.ensures ∙ ap end_of_audit failed) | inr same ↦ inr same ])
+    c.write_ending-last.ensures.constant
 
 pub returns-clause-write_fault : goal.returns-clause-write_fault
 returns-clause-write_fault g c write =

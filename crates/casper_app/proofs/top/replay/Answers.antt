@@ -1,11 +1,11 @@
-use Rattle.std.proofs.Common.{refl, sym, ap, subst, ◌∙◌}
+use Rattle.std.proofs.Common.{refl, sym, ap, subst, inl, inr, ◌∙◌}
 use Rattle.casper_core.specs.Represents.{Represents}
 use Rattle.casper_core.specs.Shaped.{RepresentsButWords}
 use Rattle.casper_app.specs.declared.end.End.TheVariants as end
 use Rattle.casper_app.specs.Comes.{ComesFrom, ComesInShape}
 use Rattle.casper_app.specs.Ending.{EndsWith}
 use Rattle.casper_app.proofs.CarryLemmas.{trail_carried}
-use Rattle.casper_app.proofs.RunLemmas.{runs_done, runs_stopped, runs_unread, shape_done, shape_stopped, shape_unread, runs_at}
+use Rattle.casper_app.proofs.RunLemmas.{runs_done, runs_stopped, runs_unread, shape_done, shape_stopped, shape_unread, runs_at, source_by, stopped_by}
 use Rattle.casper_app.proofs.top.replay.Goals as goal
 use Rattle.casper_app.proofs.top.replay.Goals.{in-Ok-take_lines, in-Err-take_lines}
 
@@ -24,7 +24,7 @@ returns-in-Err-clause-shape g c start shape =
 pub returns-clause-run : goal.returns-clause-run
 returns-clause-run g c told start stands =
     let here = subst (λ core. Represents start core) (sym c.new-replay.ensures.core) stands in
-    let calls = ap (λ core. core.calls) c.new-replay.ensures.core ∙ c.requires in
+    let calls = ap (λ core. core.calls) c.new-replay.ensures.core ∙ c.requires.calls in
     runs_at (ComesFrom start) c.new-replay.result.outlet c.args.outlet _ _ _ _ _ _ _ _ _ _ _ _ _ c.new-replay.ensures.outlet
     (ap (λ core. g.V.Vault.faults core.vault) c.new-replay.ensures.core) (ap g.V.Vault.faults (sym c.into_parts-answers.ensures.vault))
     (ap (λ a. a.items) (sym c.into_parts-answers.ensures.answers)) (sym c.into_parts-answers.ensures.trail)
@@ -40,7 +40,7 @@ returns-clause-run g c told start stands =
 pub returns-clause-shape : goal.returns-clause-shape
 returns-clause-shape g c start shape =
     let here = subst (λ core. RepresentsButWords start core) (sym c.new-replay.ensures.core) shape in
-    let calls = ap (λ core. core.calls) c.new-replay.ensures.core ∙ c.requires in
+    let calls = ap (λ core. core.calls) c.new-replay.ensures.core ∙ c.requires.calls in
     runs_at (ComesInShape start) c.new-replay.result.outlet c.args.outlet _ _ _ _ _ _ _ _ _ _ _ _ _ c.new-replay.ensures.outlet
     (ap (λ core. g.V.Vault.faults core.vault) c.new-replay.ensures.core) (ap g.V.Vault.faults (sym c.into_parts-answers.ensures.vault))
     (ap (λ a. a.items) (sym c.into_parts-answers.ensures.answers)) (sym c.into_parts-answers.ensures.trail)
@@ -52,3 +52,19 @@ returns-clause-shape g c start shape =
           (subst (λ e. EndsWith e c.write_ending-last.result (g.K.Sink.taken c.take_lines.new.sink) (g.K.Sink.taken c.write_ending-last.new.sink)) w.said-is c.write_ending-last.ensures.ends)
           here
     ])
+
+pub write_ending-last-requires : goal.write_ending-last-requires
+write_ending-last-requires g c =
+    elim c.match-take_lines.branch [
+      | in-Ok-take_lines w ↦ inr (elim w.in-Ok-take_lines.ensures.sink_whole [ inl failed ↦ (let none = failed in cc) | inr whole ↦ whole ])
+      | in-Err-take_lines w ↦ elim w.in-Err-take_lines.ensures.sink_whole [ inl write ↦ inl (w.said-is ∙ stopped_by _ _ write) | inr whole ↦ inr whole ]
+    ]
+
+pub returns-clause-source_stands : goal.returns-clause-source_stands
+returns-clause-source_stands g c =
+    source_by _ _ _ _
+    (elim c.match-take_lines.branch [
+      | in-Ok-take_lines w ↦ inr (elim w.in-Ok-take_lines.ensures.source_stands [ inl failed ↦ (let none = failed in cc) | inr same ↦ same ])
+      | in-Err-take_lines w ↦ elim w.in-Err-take_lines.ensures.source_stands [ inl read ↦ inl (w.said-is ∙ stopped_by _ _ read) | inr same ↦ inr same ]
+    ])
+    c.write_ending-last.ensures.constant

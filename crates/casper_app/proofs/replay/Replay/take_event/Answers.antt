@@ -11,10 +11,11 @@ returns-then-not-writes-clause-takes g c = record {
   writes = (refl, unwritten _ _ _ _ c.in_ok-answer.ensures.outlet (sym c.writes.ensures ∙ c.if-not-writes.true));
 }
 
-pub returns-in_err-set_answer_text-clause-takes : goal.returns-in_err-set_answer_text-clause-takes
-returns-in_err-set_answer_text-clause-takes g c =
+pub returns-in_err-text-clause-takes : goal.returns-in_err-text-clause-takes
+returns-in_err-text-clause-takes g c =
     memory_short g.V.Vault.tells g.V.Vault.faults c.args.event.now c.in_ok-answer.answer c.args.self.now c.carry_out.new.self (g.K.Sink.taken c.args.sink.now)
-    c.from_residual-in_err-set_answer_text.result c.from_residual-in_err-set_answer_text.ensures.1 c.in_ok-answer.ensures.step c.in_ok-answer.ensures.outlet c.in_ok-answer.ensures.kept
+    c.from_residual-in_err-text.result c.from_residual-in_err-text.ensures.1 c.in_ok-answer.ensures.step c.in_ok-answer.ensures.outlet c.in_ok-answer.ensures.kept
+    (written_whole _ _ c.in_ok-answer.answer c.in_ok-answer.ensures.outlet (sym c.writes.ensures ∙ c.if-not-writes.false))
 
 pub returns-in-Ok-clause-takes : goal.returns-in-Ok-clause-takes
 returns-in-Ok-clause-takes g c = record {
@@ -24,8 +25,8 @@ returns-in-Ok-clause-takes g c = record {
   kept = c.in_ok-answer.ensures.kept;
   writes = (
     refl,
-    written_text _ _ c.in_ok-answer.answer c.as_slice.result.now _ _ c.in_ok-answer.ensures.outlet (sym c.writes.ensures ∙ c.if-not-writes.false)
-        (c.as_slice.ensures.value ∙ c.in_ok-set_answer_text.ensures {u = tt}) c.in-Ok.ensures.all,
+    written_text _ _ c.in_ok-answer.answer c.in_ok-text.text.now _ _ c.in_ok-answer.ensures.outlet (sym c.writes.ensures ∙ c.if-not-writes.false)
+        c.in_ok-text.ensures.text c.in-Ok.ensures.all,
   );
 }
 
@@ -39,6 +40,6 @@ returns-in-Err-Failed-clause-takes g c = record {
     c.in_ok-answer.answer,
     refl,
     written_whole _ _ c.in_ok-answer.answer c.in_ok-answer.ensures.outlet (sym c.writes.ensures ∙ c.if-not-writes.false),
-    front_of _ _ c.as_slice.result.now _ (c.as_slice.ensures.value ∙ c.in_ok-set_answer_text.ensures {u = tt}) c.in-Err-Failed.ensures.part,
+    front_of _ _ c.in_ok-text.text.now _ c.in_ok-text.ensures.text c.in-Err-Failed.ensures.part,
   );
 }
