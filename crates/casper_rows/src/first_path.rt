@@ -1,11 +1,14 @@
 use crate::replaying::{ROOM, replayed, words_of};
-use casper_app::{Cause, End, run};
-use casper_io::{Line, MemSink, MemSource, Next, next_line};
+use casper_app::{Cause, Command, End, Opening, Outlet, carry_out, run};
+use casper_io::{MemSink, MemSource};
 use casper_space::Answer;
 use casper_words::{Op, Who};
 use std::test::Fail;
 
 const ROW: &[u8] = b"join 1\nwrite 1 5 0 17\nread 1 5 0\n";
+
+/// The last line of the row.
+const SUMMARY: &[u8] = b"end lines=3 calls=2 commits=0 rollbacks=0 version=1\n";
 
 #[test]
 fn rows(rt: HostRuntime) -> Result<(), Fail> {
@@ -154,19 +157,38 @@ fn each_write_fails(rt: HostRuntime) -> Result<(), Fail> {
 #[test]
 fn the_next_line_is_still_there(rt: HostRuntime) -> Result<(), Fail> {
     let words = words_of(rt.alloc(), "replay mem:8")?;
-    let lines: [(u64, Next, &[u8]); 3] = [
-        (1, Next::Line, b"write 1 5 0 17"),
-        (2, Next::Line, b"read 1 5 0"),
-        (3, Next::End, b""),
+    let lefts: [(u64, &[u8]); 3] = [
+        (1, b"write 1 5 0 17\nread 1 5 0\n"),
+        (2, b"read 1 5 0\n"),
+        (3, b""),
     ];
-    for (fails, next, bytes) in lines {
+    for (fails, left) in lefts {
         let mut source = MemSource::new(rt.alloc(), ROW, &[])?;
         let mut sink = MemSink::new(rt.alloc(), ROOM, &[fails])?;
         let ended = run(rt.alloc(), &words, &mut source, &mut sink);
         assert_eq!(rt; ended.last, End::Stopped(Cause::Write), "at {fails}");
-        let mut line = Line::new(rt.alloc())?;
-        assert_eq!(rt; next_line(&mut source, &mut line), Ok(next), "at {fails}");
-        assert_eq!(rt; line.bytes(), bytes, "at {fails}");
+        assert_eq!(rt; source.left(), left, "at {fails}");
+    }
+    Ok(())
+}
+
+/// Answers that are kept alone, and those that are left out, are not written.
+#[test]
+fn answers_are_kept_or_left_out(rt: HostRuntime) -> Result<(), Fail> {
+    let opening = Opening {
+        pages: 8,
+        cache: 64,
+        entries: 64,
+    };
+    let kept = [Answer::Joined, Answer::Ok, Answer::Value(17)];
+    let table: [(Outlet, &[Answer]); 2] = [(Outlet::Kept, &kept), (Outlet::LeftOut, &[])];
+    for (outlet, answers) in table {
+        let mut source = MemSource::new(rt.alloc(), ROW, &[])?;
+        let mut sink = MemSink::new(rt.alloc(), ROOM, &[])?;
+        let command = Command::Replay(opening, outlet);
+        let ended = carry_out(rt.alloc(), &command, &mut source, &mut sink);
+        assert_eq!(rt; ended.answers.as_slice(), answers);
+        assert_eq!(rt; sink.bytes(), SUMMARY);
     }
     Ok(())
 }

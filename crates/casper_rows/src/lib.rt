@@ -9,3 +9,5 @@ mod losses;
 mod recalls;
 #[cfg(test)]
 mod replaying;
+#[cfg(test)]
+mod stabilisations;
