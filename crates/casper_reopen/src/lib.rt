@@ -1,0 +1,7 @@
+//! Vaults that can be opened again where they stand.
+#![tactic(auto)]
+
+mod memory;
+mod reopen;
+
+pub use reopen::Reopen;
