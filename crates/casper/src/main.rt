@@ -2,9 +2,11 @@
 #![tactic(auto)]
 
 ghost use Rattle.std.specs.Prelude.{◌≡◌, ◌⊎◌, false, IfOk, OnErr};
+ghost use Rattle.std.specs.Iterator.{IsFinite};
 ghost use Rattle.std.specs.Process.{exit_status};
 ghost use Rattle.casper_words.specs.Count.{FaultCountRose};
 ghost use Rattle.casper.specs.Begin.{RunsTo, TellsNoMemory};
+ghost use Rattle.casper.specs.Words.{AreTexts};
 
 use casper_app::{Cause, run};
 use casper_io::{Sink, Source, StdSink, StdSource, put_all};
@@ -88,16 +90,24 @@ fn end_without_memory<K: Sink>(sink: &mut K) -> ExitCode
 
 /// The words after the program's name. A word that is no text is a word of no command, as no word is.
 fn words_given(rt: &HostRuntime) -> Result<Vec<Word>, Memory> {
-    match words_of_texts(rt) {
-        Ok(words) => Ok(words),
+    match env::args(rt) {
+        Ok(texts) => words_of(rt.alloc(), texts.skip(1)),
         Err(error) if error.kind() == io::ErrorKind::OutOfMemory => Err(Memory),
         Err(_) => Ok(Vec::new(rt.alloc())),
     }
 }
 
-fn words_of_texts(rt: &HostRuntime) -> io::Result<Vec<Word>> {
-    let mut words = Vec::new(rt.alloc());
-    for text in env::args(rt)?.skip(1) {
+/// These texts as words, each of them in its place.
+fn words_of<I: Iterator<Item = String> + Drop>(
+    alloc: Global,
+    texts: I,
+) -> Result<Vec<Word>, Memory>
+    requires more { I.can_next texts }
+    requires ends { IsFinite (I.remaining texts) }
+    ensures { IfOk result (λ words. AreTexts I.next_gives texts words.items) }
+{
+    let mut words = Vec::new(alloc);
+    for text in texts {
         words.push(Word::new(text))?;
     }
     Ok(words)

@@ -3,3 +3,4 @@ pub mod Found
 pub mod Chain
 pub mod StopLaws
 pub mod ChainRows
+pub mod Within

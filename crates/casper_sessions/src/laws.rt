@@ -1,4 +1,5 @@
 ghost use Rattle.casper_sessions.specs.ChainRows.{MomentsOfAWriteOut, DoubtFoundOld, DoubtFoundNew};
+ghost use Rattle.casper_sessions.specs.Within.{EachStopIsAfterSome, EachRunLeavesAClosedPart};
 ghost use Rattle.casper_sessions.specs.StopLaws.{EachStopIsOfItsMoment, EachWriteOutIsOfItsMoment, EachStopLeavesAClosedPart, EachOpeningFindsAClosedPart, EachChainGoesOn};
 
 /// At every moment of every session a stop leaves the stable image where no write-out is undecided, that or the image with the
@@ -15,6 +16,13 @@ pub fn law_of_stops()
 pub fn law_of_chains()
     ensures opening { EachOpeningFindsAClosedPart }
     ensures goes_on { EachChainGoesOn }
+{}
+
+/// What a stop within a run leaves, also within a call of the vault, is left at a moment after some of its steps. So it is the array of a
+/// closed part, with everything stable, of the history as it was then, whose marks the run goes on to have. It does nothing.
+pub fn law_of_runs()
+    ensures some { EachStopIsAfterSome }
+    ensures closed { EachRunLeavesAClosedPart }
 {}
 
 /// Two sessions worked out, with a doubt between them. It does nothing.

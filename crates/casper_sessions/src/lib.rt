@@ -3,4 +3,4 @@
 
 mod laws;
 
-pub use laws::{law_of_chains, law_of_stops, rows_of_chains};
+pub use laws::{law_of_chains, law_of_runs, law_of_stops, rows_of_chains};
