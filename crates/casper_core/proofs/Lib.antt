@@ -14,6 +14,7 @@ pub mod Loads
 pub mod Losses
 pub mod Loses
 pub mod Places
+pub mod Reopens
 pub mod ReplayRuns
 pub mod ShapedRuns
 pub mod StepParts
