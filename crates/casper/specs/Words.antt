@@ -1,6 +1,6 @@
-use Rattle.std.specs.Prelude.{◌≡◌, ℕ, List, Option, map}
+use Rattle.std.specs.Prelude.{◌≡◌, ℕ, List, Option, String, map}
 use Rattle.std.specs.Iterator.{Drains}
-use Rattle.std.specs.String.{String, string_bytes}
+use Rattle.std.specs.String.{string_bytes}
 
 -- the words are the texts that an iterator gives, each in its place
 abbrev pub AreTexts : {I Z : Type 0} → (I → Option (String Z) → I → Type 0) → I → List (List ℕ) → Type 0

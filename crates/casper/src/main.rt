@@ -98,10 +98,7 @@ fn words_given(rt: &HostRuntime) -> Result<Vec<Word>, Memory> {
 }
 
 /// These texts as words, each of them in its place.
-fn words_of<I: Iterator<Item = String> + Drop>(
-    alloc: Global,
-    texts: I,
-) -> Result<Vec<Word>, Memory>
+fn words_of<I: Iterator<Item = String> + Drop>(alloc: Global, texts: I) -> Result<Vec<Word>, Memory>
     requires more { I.can_next texts }
     requires ends { IsFinite (I.remaining texts) }
     ensures { IfOk result (λ words. AreTexts I.next_gives texts words.items) }
