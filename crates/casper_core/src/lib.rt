@@ -9,6 +9,7 @@ mod depart;
 mod finish;
 mod join;
 mod load;
+mod reopen;
 mod replay;
 mod state;
 mod step;

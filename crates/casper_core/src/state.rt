@@ -73,7 +73,7 @@ impl<V: Vault> Model for Core<V> {
 }
 
 /// The places of the caches, all of them empty.
-fn no_caches(alloc: Global) -> Result<Vec<Option<Cache>>, Memory>
+pub(crate) fn no_caches(alloc: Global) -> Result<Vec<Option<Cache>>, Memory>
     ensures { IfOk result (λ caches. caches.items ≡ replicate 33 None) }
 {
     let mut caches = Vec::with_capacity(alloc, Who::PLACES)?;
@@ -135,7 +135,7 @@ impl<V: Vault> Core<V> {
         &self.hub
     }
 
-    /// How many reads and writes were completed since the session began. The number stays at the greatest of its type.
+    /// How many reads and writes were completed since the core began. The number stays at the greatest of its type.
     pub fn calls(&self) -> u64
         ensures calls { result ≡ self.now.calls }
         ensures sound { IsSound self.now }
