@@ -1,2 +1,3 @@
+pub mod Refusals
 pub mod Summary
 pub mod Texts
