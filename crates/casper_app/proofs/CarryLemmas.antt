@@ -8,7 +8,6 @@ use Rattle.casper_trail.specs.TrailView.{commit_count, rollback_count}
 use Rattle.casper_space.specs.declared.answer.Answer.{Answer}
 use Rattle.casper_space.specs.declared.answer.Answer.TheVariants as answer
 use Rattle.casper_report.specs.declared.summary.Summary.{Summary}
-use Rattle.casper_cache.specs.Own as cache
 use Rattle.casper_model.specs.Own as machine
 use Rattle.casper_model.specs.declared.event.Event.{Event}
 use Rattle.casper_model.specs.State.{State, own_at, start}
@@ -225,16 +224,19 @@ reopen_none tells faults old after stands shape calls falls = record {
 }
 
 -- the limits of a core are those of the state that it stands for
-held_by : {V : Type 0} (core : CoreView V) (place : Option cache.Own) → IsSound core → cache_at core 0 ≡ place → (own_part core.capacity 0 place).capacity ≡ core.capacity
-held_by core None sound is = refl
-held_by core (Some own) sound is = (sound.kept 0 own is).capacity
+held_by : {V : Type 0} (core : CoreView V) → IsSound core → (own_part core.capacity 0 (cache_at core 0)).capacity ≡ core.capacity
+held_by core sound =
+    let by_place = elim (cache_at core 0) as (λ place. cache_at core 0 ≡ place → (own_part core.capacity 0 place).capacity ≡ core.capacity) [
+      | None ↦ λ is. refl
+      | Some own ↦ λ is. (sound.kept 0 own is).capacity
+    ] in by_place refl
 
 begins_again : {V : Type 0} (entries : ℕ) (state : State) (core after : CoreView V) (found : VaultState) → IsSound core → Shows state.shared core.hub
     → own_at state 0 ≡ own_part core.capacity 0 (cache_at core 0) → after.size ≡ core.size → after.capacity ≡ core.capacity
     → start found after.size entries after.capacity ≡ begun_again entries state found
 begins_again entries state core after found sound shows own size capacity =
     ap₂ (λ (pages held : ℕ). start found pages entries held) (size ∙ sound.size ∙ sym shows.pages)
-    (capacity ∙ sym (held_by core (cache_at core 0) sound refl) ∙ sym (ap (λ (one : machine.Own). one.capacity) own))
+    (capacity ∙ sym (held_by core sound) ∙ sym (ap (λ (one : machine.Own). one.capacity) own))
 
 no_fault : (given : Answer) (version : ℕ) → given ≡ answer.Reopened version → IsTrue (is_fault given) → ⊥
 no_fault given version is fault = true≢false (sym fault ∙ ap is_fault is)

@@ -25,9 +25,13 @@ pub record Standing : Type 0 where
   pub state : State
   pub past : Past
 
+-- before any session has ended
+abbrev pub no_past : Past
+no_past = record { commits = 0; rollbacks = 0 }
+
 -- as it begins
 abbrev pub begun : State → Standing
-begun start = record { found = start.vault; state = start; past = record { commits = 0; rollbacks = 0 } }
+begun start = record { found = start.vault; state = start; past = no_past }
 
 -- marks are counted up to the greatest number of 64 bits
 abbrev pub added : ℕ → ℕ → ℕ

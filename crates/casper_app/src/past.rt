@@ -1,5 +1,5 @@
 ghost use Rattle.std.specs.Prelude.{◌≡◌};
-ghost use Rattle.casper_app.specs.Play.{past_with};
+ghost use Rattle.casper_app.specs.Play.{no_past, past_with};
 
 use casper_trail::{Mark, Trail};
 
@@ -13,8 +13,7 @@ pub(crate) struct Past {
 impl Past {
     /// Before any session has ended.
     pub(crate) fn none() -> Past
-        ensures commits { result.commits ≡ 0 }
-        ensures rollbacks { result.rollbacks ≡ 0 }
+        ensures { result ≡ no_past }
     {
         Past {
             commits: 0,
