@@ -10,7 +10,9 @@ use Rattle.casper_io.specs.Lines.{TakesLine, TakesEnd}
 use Rattle.casper_io.specs.Reading.{most_lines}
 use Rattle.casper_io.specs.Told.{WhereTold, TakesFront}
 use Rattle.casper_space.specs.declared.answer.Answer.{Answer}
+use Rattle.casper_words.specs.Count.{FaultCountRose}
 use Rattle.casper_report.specs.Texts.{answer_line, answer_lines}
+use Rattle.casper_core.specs.Stepping.{RoseBy}
 use Rattle.casper_app.specs.declared.cause.Cause.{Cause}
 use Rattle.casper_app.specs.declared.cause.Cause.TheVariants as cause
 use Rattle.casper_app.specs.declared.outlet.Outlet.{Outlet}
@@ -312,3 +314,7 @@ is_line P Q false e h = cc
 pub err_is : {T : Type 0} (result : Result T Cause) (why : Cause) (P : Result T Cause → Type 0) → IsErrAnd result (λ e. e ≡ why) → P (Err why) → P result
 err_is (Ok x) why P fails h = absurd fails
 err_is {T} (Err e) why P fails h = subst (λ (f : Cause). P (Err f)) (sym fails) h
+
+-- a count of faults that rose later rose
+pub rose_later : (count before middle now : ℕ) → RoseBy count before middle → FaultCountRose middle now → FaultCountRose before now
+rose_later count before middle now first later = omega (arith, first, later)
