@@ -35,7 +35,7 @@ use Rattle.casper_app.specs.Carrying.{StandsBy, summary_in}
 use Rattle.casper_app.specs.Chain.{IsOfSessions}
 use Rattle.casper_app.specs.Comes.{TellsOf, TellsButVersion, ComesFrom, ComesInShape}
 use Rattle.casper_app.specs.Lines.{asked_in}
-use Rattle.casper_app.specs.Play.{Standing, begun, summary_of}
+use Rattle.casper_app.specs.Play.{Standing, Plays, begun, by_machine, in_shape, summary_of}
 use Rattle.casper_app.specs.Outlet.{keeps, writes, kept_of, written_of}
 use Rattle.casper_app.specs.Replay.{EndsFor, WritesAnswers, cause_of}
 use Rattle.casper_app.specs.Reading.{IsReading, stop_of}
@@ -52,20 +52,30 @@ Coming = ℕ → End → List Asked → List Answer → List Item → Type 0
 module _ {V : Type 0} {tells : Bool} {faults : V → ℕ} {left left_after taken between : Option (List ℕ)} {old new : Replay V} {result : Result ℕ Cause}
     (reading : IsReading tells faults left left_after taken between old new result) where
   -- what a reading comes to over a vault that tells what it holds
-  comes_from : (start : State) → IsTrue tells → StandsBy Represents (begun start) old.sessions → (meant : End)
+  comes_from : (entries : ℕ) (start : State) → old.sessions.entries ≡ entries → IsTrue tells → StandsBy Represents (begun start) old.sessions → (meant : End)
       → ((last : Standing) → StandsBy Represents last new.sessions → TellsOf meant (summary_of (length reading.lines) (asked_in reading.lines) reading.given last))
-      → ComesFrom old.sessions.entries start (length reading.lines) meant (asked_in reading.lines) reading.given new.sessions.core.hub.trail
-  comes_from start told stands meant tells_it =
+      → ComesFrom entries start (length reading.lines) meant (asked_in reading.lines) reading.given new.sessions.core.hub.trail
+  comes_from entries start same told stands meant tells_it =
       let run = reading.carries.plays told (begun start) stands in
-      record { last = run.0; plays = run.1; recorded = sym run.2.state.parts.shared.trail; counted = tells_it run.0 run.2 }
+      record {
+        last = run.0;
+        plays = subst (λ (n : ℕ). Plays by_machine n (begun start) (asked_in reading.lines) reading.given run.0) same run.1;
+        recorded = sym run.2.state.parts.shared.trail;
+        counted = tells_it run.0 run.2;
+      }
 
   -- and over every vault
-  comes_in_shape : (start : State) → StandsBy RepresentsButWords (begun start) old.sessions → (meant : End)
+  comes_in_shape : (entries : ℕ) (start : State) → old.sessions.entries ≡ entries → StandsBy RepresentsButWords (begun start) old.sessions → (meant : End)
       → ((last : Standing) → StandsBy RepresentsButWords last new.sessions → TellsButVersion meant (summary_of (length reading.lines) (asked_in reading.lines) reading.given last))
-      → ComesInShape old.sessions.entries start (length reading.lines) meant (asked_in reading.lines) reading.given new.sessions.core.hub.trail
-  comes_in_shape start stands meant tells_it =
+      → ComesInShape entries start (length reading.lines) meant (asked_in reading.lines) reading.given new.sessions.core.hub.trail
+  comes_in_shape entries start same stands meant tells_it =
       let run = reading.carries.shape (begun start) stands in
-      record { last = run.0; plays = run.1; recorded = sym run.2.state.shared.trail; counted = tells_it run.0 run.2 }
+      record {
+        last = run.0;
+        plays = subst (λ (n : ℕ). Plays in_shape n (begun start) (asked_in reading.lines) reading.given run.0) same run.1;
+        recorded = sym run.2.state.shared.trail;
+        counted = tells_it run.0 run.2;
+      }
 
   -- a reading and the line that tells how it ended make a replay
   made : (Comes : Coming) (none : old.answers.items ≡ []) (meant last : End) (taken_after : Option (List ℕ)) → cause_of meant ≡ stop_of result
@@ -99,41 +109,41 @@ module _ {V : Type 0} {tells : Bool} {faults : V → ℕ} {left left_after taken
   }
 
 -- the source was read to its end, and this is what the last line tells
-module _ {V : Type 0} {tells : Bool} {faults : V → ℕ} {left left_after taken between : Option (List ℕ)} {old new : Replay V} (count : ℕ) (start : State) (last : End) (taken_after : Option (List ℕ))
+module _ {V : Type 0} {tells : Bool} {faults : V → ℕ} {left left_after taken between : Option (List ℕ)} {old new : Replay V} (count entries : ℕ) (start : State) (last : End) (taken_after : Option (List ℕ)) (same : old.sessions.entries ≡ entries)
     (reading : IsReading tells faults left left_after taken between old new (Ok count)) (calls : old.sessions.core.calls ≡ 0) (none : old.answers.items ≡ [])
     (ending : EndsWith (end.Done (summary_in count new.sessions)) last between taken_after) where
   meant : End
   meant = end.Done (summary_in count new.sessions)
 
   pub runs_done : IsTrue tells → StandsBy Represents (begun start) old.sessions
-      → RunsReplay (ComesFrom old.sessions.entries start) old.outlet (faults old.sessions.core.vault) (faults new.sessions.core.vault) left left_after taken taken_after new.answers.items new.sessions.core.hub.trail last
+      → RunsReplay (ComesFrom entries start) old.outlet (faults old.sessions.core.vault) (faults new.sessions.core.vault) left left_after taken taken_after new.answers.items new.sessions.core.hub.trail last
   unfolding meant
   runs_done told stands =
-      made reading (ComesFrom old.sessions.entries start) none meant last taken_after refl
-      (comes_from reading start told stands meant
+      made reading (ComesFrom entries start) none meant last taken_after refl
+      (comes_from reading entries start same told stands meant
       (λ at. summary_told tells faults reading.lines reading.given old.sessions new.sessions at count reading.carries calls reading.few reading.counted)) ending
 
   pub shape_done : StandsBy RepresentsButWords (begun start) old.sessions
-      → RunsReplay (ComesInShape old.sessions.entries start) old.outlet (faults old.sessions.core.vault) (faults new.sessions.core.vault) left left_after taken taken_after new.answers.items new.sessions.core.hub.trail last
+      → RunsReplay (ComesInShape entries start) old.outlet (faults old.sessions.core.vault) (faults new.sessions.core.vault) left left_after taken taken_after new.answers.items new.sessions.core.hub.trail last
   unfolding meant
   shape_done stands =
-      made reading (ComesInShape old.sessions.entries start) none meant last taken_after refl
-      (comes_in_shape reading start stands meant
+      made reading (ComesInShape entries start) none meant last taken_after refl
+      (comes_in_shape reading entries start same stands meant
       (λ at. shape_told tells faults reading.lines reading.given old.sessions new.sessions at count reading.carries calls reading.few reading.counted)) ending
 
 -- the reading ended before
-module _ {V : Type 0} {tells : Bool} {faults : V → ℕ} {left left_after taken between : Option (List ℕ)} {old new : Replay V} (said : Cause) (start : State) (last : End) (taken_after : Option (List ℕ))
+module _ {V : Type 0} {tells : Bool} {faults : V → ℕ} {left left_after taken between : Option (List ℕ)} {old new : Replay V} (said : Cause) (entries : ℕ) (start : State) (last : End) (taken_after : Option (List ℕ)) (same : old.sessions.entries ≡ entries)
     (reading : IsReading tells faults left left_after taken between old new (Err said)) (none : old.answers.items ≡ [])
     (ending : EndsWith (end.Stopped said) last between taken_after) where
   pub runs_stopped : IsTrue tells → StandsBy Represents (begun start) old.sessions
-      → RunsReplay (ComesFrom old.sessions.entries start) old.outlet (faults old.sessions.core.vault) (faults new.sessions.core.vault) left left_after taken taken_after new.answers.items new.sessions.core.hub.trail last
+      → RunsReplay (ComesFrom entries start) old.outlet (faults old.sessions.core.vault) (faults new.sessions.core.vault) left left_after taken taken_after new.answers.items new.sessions.core.hub.trail last
   runs_stopped told stands =
-      made reading (ComesFrom old.sessions.entries start) none (end.Stopped said) last taken_after refl (comes_from reading start told stands (end.Stopped said) (λ at here. tt)) ending
+      made reading (ComesFrom entries start) none (end.Stopped said) last taken_after refl (comes_from reading entries start same told stands (end.Stopped said) (λ at here. tt)) ending
 
   pub shape_stopped : StandsBy RepresentsButWords (begun start) old.sessions
-      → RunsReplay (ComesInShape old.sessions.entries start) old.outlet (faults old.sessions.core.vault) (faults new.sessions.core.vault) left left_after taken taken_after new.answers.items new.sessions.core.hub.trail last
+      → RunsReplay (ComesInShape entries start) old.outlet (faults old.sessions.core.vault) (faults new.sessions.core.vault) left left_after taken taken_after new.answers.items new.sessions.core.hub.trail last
   shape_stopped stands =
-      made reading (ComesInShape old.sessions.entries start) none (end.Stopped said) last taken_after refl (comes_in_shape reading start stands (end.Stopped said) (λ at here. tt)) ending
+      made reading (ComesInShape entries start) none (end.Stopped said) last taken_after refl (comes_in_shape reading entries start same stands (end.Stopped said) (λ at here. tt)) ending
 
 no_answers_of : (test : Bool) → ◌≡◌ {A = List Answer} (cond test [] []) []
 no_answers_of true = refl
