@@ -17,11 +17,9 @@ use Rattle.casper_laws.proofs.KeptCalls.{step_calls, every_run_calls}
 use Rattle.casper_model.proofs.RunRights.{start_in_order, blank_at}
 use Rattle.casper_model.proofs.StepRights.{step_rights}
 use Rattle.casper_model.specs.Rights.{InOrder, AllNameClients}
-use Rattle.casper_app.specs.Lines.{events_in}
 use Rattle.casper_app.specs.Machine.{calls_answered, calls_kept, may_drop, none_dropped, SessionsKeepCalls, SessionsKeepCallsButDropped}
 use Rattle.casper_core.specs.Acting.{outside_in}
 use Rattle.casper_core.specs.Stepping.{happenings_of}
-use Rattle.casper_app.proofs.SessionLemmas.{lines_name_clients}
 
 -- what two tests refuse, three refuse
 refused_by_more : (first second third : Bool) → not (first && third) ≡ true → not (first && (second && third)) ≡ true
@@ -82,11 +80,11 @@ completed_by state (asked ∷ events) (one ∷ given) client is =
     ∙ ap (λ (calls : List Call). completed_calls asked one client ++ calls) (completed_by turn.state events given client heads.1)
 
 pub sessions_keep_calls : SessionsKeepCalls
-sessions_keep_calls vault pages limit capacity lines given who session none =
+sessions_keep_calls vault pages limit capacity events given who named session none =
     let begun : State = start vault pages limit capacity in
-    every_run_in_order vault pages limit capacity (happenings_of (events_in lines) given) (lines_name_clients lines given) who
-    (never_by begun (events_in lines) given who session.answers none)
-    ∙ completed_by begun (events_in lines) given who session.answers
+    every_run_in_order vault pages limit capacity (happenings_of events given) named who
+    (never_by begun events given who session.answers none)
+    ∙ completed_by begun events given who session.answers
 
 -- each step leaves a client what it leaves, and adds what its answer completes
 kept_from : (state : State) (events : List Event) (given : List Answer) (who : ℕ) → AllNameClients (happenings_of events given) → InOrder state
@@ -106,8 +104,8 @@ kept_from state (asked ∷ events) (one ∷ given) who named order pending is =
     ∙ ap (calls_kept turn.state events given who) made
 
 pub sessions_keep_but_dropped : SessionsKeepCallsButDropped
-sessions_keep_but_dropped vault pages limit capacity lines given who session =
+sessions_keep_but_dropped vault pages limit capacity events given who named session =
     let begun : State = start vault pages limit capacity in
-    kept_from begun (events_in lines) given who (lines_name_clients lines given) (start_in_order vault pages limit capacity)
+    kept_from begun events given who named (start_in_order vault pages limit capacity)
     (every_run_calls vault pages limit capacity [] tt) session.answers
-    ∙ ap (calls_kept begun (events_in lines) given who) (blank_at vault pages limit capacity who).pending
+    ∙ ap (calls_kept begun events given who) (blank_at vault pages limit capacity who).pending

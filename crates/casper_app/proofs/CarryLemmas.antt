@@ -1,196 +1,281 @@
-use Rattle.std.proofs.Common.{◌≡◌, ◌+◌, ◌-◌, ◌^◌, ◌<◌, ◌≤◌, arith, ℕ, Bool, true, false, cond, List, [], ◌∷◌, ◌++◌, Option, Some, None, ap, sym, subst, ◌∙◌, refl, length, length-append}
-use Rattle.std.specs.Prelude.{IsTrue, min, slice_index_or, is_some, option_to_list}
+use Rattle.std.proofs.Common.{◌≡◌, ◌+◌, ◌-◌, ◌^◌, ◌<◌, ◌≤◌, arith, ℕ, Bool, true, false, cond, List, [], ◌∷◌, ◌++◌, Option, Some, None, ap, ap₂, sym, subst, ◌∙◌, refl, length, length-append, true≢false}
+use Rattle.std.specs.Prelude.{IsTrue, min, is_some, option_to_list}
 use Rattle.std.specs.List.{cons_option}
 use Rattle.std.proofs.lemmas.List.{append-nil}
+use Rattle.casper_words.specs.Count.{FaultCountRose}
 use Rattle.casper_trail.specs.declared.item.Item.{Item}
 use Rattle.casper_trail.specs.TrailView.{commit_count, rollback_count}
 use Rattle.casper_space.specs.declared.answer.Answer.{Answer}
+use Rattle.casper_space.specs.declared.answer.Answer.TheVariants as answer
 use Rattle.casper_report.specs.declared.summary.Summary.{Summary}
+use Rattle.casper_model.specs.Own as machine
 use Rattle.casper_model.specs.declared.event.Event.{Event}
-use Rattle.casper_model.specs.Run.{Happening, all_fit, answers_of, state_after}
-use Rattle.casper_model.specs.State.{State}
+use Rattle.casper_model.specs.State.{State, own_at, start}
 use Rattle.casper_model.specs.Vault.{VaultState}
-use Rattle.casper_core.specs.CoreView.{CoreView}
-use Rattle.casper_core.specs.Shaped.{RepresentsButWords, RunsInShape, IsRunMade, state_with, answers_with, step_with}
-use Rattle.casper_core.specs.Represents.{Represents}
-use Rattle.casper_core.specs.Stepping.{IsRun, Runs, completes, completed_in, happening_of, happenings_of}
-use Rattle.casper_core.proofs.ReplayRuns.{run_nothing, run_more, run_still, rose_more, count_more}
-use Rattle.casper_core.proofs.ShapedRuns.{made_nothing, made_more, made_still}
+use Rattle.casper_hub.specs.Shows.{Shows}
+use Rattle.casper_sessions.specs.Chain.{IsFound}
+use Rattle.casper_core.specs.CoreView.{CoreView, cache_at}
+use Rattle.casper_core.specs.Shaped.{RepresentsButWords, StepsInShape, IsMade, step_with}
+use Rattle.casper_core.specs.Represents.{Represents, own_part}
+use Rattle.casper_core.specs.Sound.{IsSound}
+use Rattle.casper_core.specs.Stepping.{Steps, IsAnswered, IsUnchanged, is_fault, completes, counted}
+use Rattle.casper_core.proofs.ReplayRuns.{rose_more}
+use Rattle.casper_core.proofs.ShapedRuns.{shape_unchanged}
 use Rattle.casper_app.specs.declared.end.End.TheVariants as end
-use Rattle.casper_app.specs.Comes.{TellsInShape}
-use Rattle.casper_app.specs.Carrying.{MakesStep, MakesNone, Carries, summary_in}
-use Rattle.casper_app.specs.Lines.{event_of_line, events_in}
-use Rattle.casper_app.specs.Session.{IsSession, state_behind, trail_behind, summary_of}
+use Rattle.casper_app.specs.declared.past.Past.{Past}
+use Rattle.casper_app.specs.declared.schedule.Asked.{Asked}
+use Rattle.casper_app.specs.declared.schedule.Asked.TheVariants as asks
+use Rattle.casper_app.specs.declared.sessions.Sessions.{Sessions}
+use Rattle.casper_app.specs.Play.{Rules, Standing, Takes, Plays, begun, begun_again, past_with, added, by_machine, in_shape, calls_in, completes_call, summary_of}
+use Rattle.casper_app.specs.Carrying.{StandsBy, TakesBy, PlaysBy, StaysBy, MakesStep, MakesNone, Carries, summary_in}
+use Rattle.casper_app.specs.Comes.{TellsOf, TellsButVersion}
+use Rattle.casper_app.specs.Lines.{asked_of_line, asked_in}
 use Rattle.casper_app.specs.Taking.{CarriesLine}
 
--- more events, of which none is answered, change nothing
+-- one thing more was asked for and answered
+pub plays_more : (rules : Rules) (entries : ℕ) (asked : List Asked) (given : List Answer) (one : Asked) (said : Answer) (first middle last : Standing)
+    → Plays rules entries first asked given middle → Takes rules entries middle one said last → Plays rules entries first (asked ++ one ∷ []) (given ++ said ∷ []) last
+plays_more rules entries [] [] one said first middle last same takes = (last, subst (λ (s : Standing). Takes rules entries s one said last) same takes, refl)
+plays_more rules entries [] (other ∷ given) one said first middle last none takes = absurd none
+plays_more rules entries (other ∷ asked) [] one said first middle last none takes = absurd none
+plays_more rules entries (other ∷ asked) (was ∷ given) one said first middle last plays takes =
+    (plays.0, plays.1, plays_more rules entries asked given one said plays.0 middle last plays.2 takes)
 
-happenings_front : (events more : List Event) (given : List Answer) → length given ≡ length events → happenings_of (events ++ more) given ≡ happenings_of events given
-happenings_front events more [] same = refl
-happenings_front [] more (one ∷ given) same = absurd (omega (arith, same))
-happenings_front (asked ∷ events) more (one ∷ given) same = ap (λ (rest : List Happening). happening_of asked one ∷ rest) (happenings_front events more given (omega (arith, same)))
+pub calls_more : (asked : List Asked) (given : List Answer) (one : Asked) (said : Answer) → length given ≡ length asked
+    → calls_in (asked ++ one ∷ []) (given ++ said ∷ []) ≡ calls_in asked given + cond (completes_call one said) 1 0
+calls_more [] [] one said same = omega arith
+calls_more [] (other ∷ given) one said same = absurd (omega (arith, same))
+calls_more (other ∷ asked) [] one said same = absurd (omega (arith, same))
+calls_more (other ∷ asked) (was ∷ given) one said same = let rest = calls_more asked given one said (omega (arith, same)) in omega (arith, rest)
 
-state_front : (state : State) (events more : List Event) (given : List Answer) → length given ≡ length events → state_with state (events ++ more) given ≡ state_with state events given
-state_front state events more [] same = refl
-state_front state [] more (one ∷ given) same = absurd (omega (arith, same))
-state_front state (asked ∷ events) more (one ∷ given) same = state_front (step_with state asked one).state events more given (omega (arith, same))
+count_one : (completed : Bool) (before count : ℕ) → counted completed (min (before + count) (2 ^ 64 - 1)) ≡ min (before + (count + cond completed 1 0)) (2 ^ 64 - 1)
+count_one true before count = omega arith
+count_one false before count = omega arith
 
-answers_front : (state : State) (events more : List Event) (given : List Answer) → length given ≡ length events → answers_with state (events ++ more) given ≡ answers_with state events given
-answers_front state events more [] same = refl
-answers_front state [] more (one ∷ given) same = absurd (omega (arith, same))
-answers_front state (asked ∷ events) more (one ∷ given) same =
-    ap (λ (rest : List Answer). (step_with state asked one).answer ∷ rest) (answers_front (step_with state asked one).state events more given (omega (arith, same)))
+plays_then : {V : Type 0} (rules : Rules) (IsOf : State → CoreView V → Type 0) (asked : List Asked) (given : List Answer) (one : Asked) (said : Answer) (first middle last : Sessions V)
+    → middle.entries ≡ first.entries → PlaysBy rules IsOf asked given first middle → TakesBy rules IsOf one said middle last
+    → PlaysBy rules IsOf (asked ++ one ∷ []) (given ++ said ∷ []) first last
+plays_then rules IsOf asked given one said first middle last same plays takes standing stands =
+    let run = plays standing stands in
+    let step = takes run.0 run.2 in
+    (
+      step.0,
+      plays_more rules first.entries asked given one said standing run.0 step.0 run.1 (subst (λ (n : ℕ). Takes rules n run.0 one said step.0) same step.1),
+      step.2,
+    )
 
-completed_front : (events more : List Event) (given : List Answer) → length given ≡ length events → completed_in (events ++ more) given ≡ completed_in events given
-completed_front events more [] same = refl
-completed_front [] more (one ∷ given) same = absurd (omega (arith, same))
-completed_front (asked ∷ events) more (one ∷ given) same =
-    ap (λ (rest : ℕ). cond (completes asked one) 1 0 + rest) (completed_front events more given (omega (arith, same)))
+plays_still : {V : Type 0} (rules : Rules) (IsOf : State → CoreView V → Type 0) (asked : List Asked) (given : List Answer) (first middle last : Sessions V)
+    → PlaysBy rules IsOf asked given first middle → StaysBy IsOf middle last → PlaysBy rules IsOf asked given first last
+plays_still rules IsOf asked given first middle last plays stays standing stands =
+    let run = plays standing stands in (run.0, run.1, stays run.0 run.2)
 
-runs_front : {V : Type 0} (events more : List Event) (given : List Answer) (first last : CoreView V) → length given ≡ length events → Runs events given first last → Runs (events ++ more) given first last
-runs_front events more given first last same runs state stands =
-    let run : IsRun state events given last = runs state stands in
-    let before : happenings_of events given ≡ happenings_of (events ++ more) given = sym (happenings_front events more given same) in
-    record {
-      outside_fits = subst (λ (h : List Happening). IsTrue (all_fit state h)) before run.outside_fits;
-      answers = run.answers ∙ ap (answers_of state) before;
-      stands = subst (λ (h : List Happening). Represents (state_after state h) last) before run.stands;
-    }
-
-shape_front : {V : Type 0} (events more : List Event) (given : List Answer) (first last : CoreView V) → length given ≡ length events → RunsInShape events given first last → RunsInShape (events ++ more) given first last
-shape_front events more given first last same runs state shape =
-    let run : IsRunMade state events given last = runs state shape in
-    record {
-      answers = run.answers ∙ sym (answers_front state events more given same);
-      shape = subst (λ (s : State). RepresentsButWords s last) (sym (state_front state events more given same)) run.shape;
-    }
-
--- the event at the end is the one
-index_last : (events : List Event) (one : Event) (count : ℕ) → count ≡ length events → one ≡ slice_index_or (events ++ one ∷ []) count one
-index_last [] one count same = subst (λ (n : ℕ). one ≡ slice_index_or (one ∷ []) n one) (sym same) refl
-index_last (first ∷ events) one count same =
-    subst (λ (n : ℕ). one ≡ slice_index_or (first ∷ events ++ one ∷ []) n one) (sym same) (index_last events one (length events) refl)
-
--- a core that carried nothing out yet
-pub carries_none : {V : Type 0} (tells : Bool) (faults : V → ℕ) (core : CoreView V) → core.calls ≡ 0 → Carries tells faults [] [] core core
-carries_none tells faults core calls = record {
+-- before anything is asked for
+pub carries_none : {V : Type 0} (tells : Bool) (faults : V → ℕ) (sessions : Sessions V) → sessions.core.calls ≡ 0 → Carries tells faults [] [] sessions sessions
+carries_none tells faults sessions calls = record {
   each = refl;
-  runs = λ told. run_nothing [] core;
-  shape = made_nothing [] core;
+  plays = λ told standing stands. (standing, refl, stands);
+  shape = λ standing stands. (standing, refl, stands);
   failures = omega arith;
   calls = omega (arith, calls);
+  entries = refl;
 }
 
--- one event more
-pub carries_more : {V : Type 0} (tells : Bool) (faults : V → ℕ) (events : List Event) (given : List Answer) (asked : Event) (one : Answer) (first middle last : CoreView V)
-    → Carries tells faults events given first middle → MakesStep tells faults asked one middle last → Carries tells faults (events ++ asked ∷ []) (given ++ one ∷ []) first last
-carries_more tells faults events given asked one first middle last carries step =
-    let all : List Event = events ++ asked ∷ [] in
-    let below : length given < length (events ++ asked ∷ []) = omega (arith, length-append events (asked ∷ []), carries.each) in
-    let at : asked ≡ slice_index_or (events ++ asked ∷ []) (length given) asked = index_last events asked (length given) carries.each in
-    record {
-      each = length-append given (one ∷ []) ∙ ap (λ (n : ℕ). n + 1) carries.each ∙ sym (length-append events (asked ∷ []));
-      runs = λ told. run_more all given asked one first middle last below at (runs_front events (asked ∷ []) given first middle carries.each (carries.runs told)) (step.step told);
-      shape = made_more all given asked one first middle last below at (shape_front events (asked ∷ []) given first middle carries.each carries.shape) step.shape;
-      failures = rose_more given one _ _ _ carries.failures step.never_falls step.fault;
-      calls = count_more all given asked one first.calls middle.calls last.calls below at
-          (carries.calls ∙ ap (λ (n : ℕ). min (first.calls + n) (2 ^ 64 - 1)) (sym (completed_front events (asked ∷ []) given carries.each))) step.calls;
-    }
+-- one thing more
+pub carries_more : {V : Type 0} (tells : Bool) (faults : V → ℕ) (asked : List Asked) (given : List Answer) (one : Asked) (said : Answer) (first middle last : Sessions V)
+    → Carries tells faults asked given first middle → MakesStep tells faults one said middle last → Carries tells faults (asked ++ one ∷ []) (given ++ said ∷ []) first last
+carries_more tells faults asked given one said first middle last carries step = record {
+  each = length-append given (said ∷ []) ∙ ap (λ (n : ℕ). n + 1) carries.each ∙ sym (length-append asked (one ∷ []));
+  plays = λ told. plays_then by_machine Represents asked given one said first middle last carries.entries (carries.plays told) (step.step told);
+  shape = plays_then in_shape RepresentsButWords asked given one said first middle last carries.entries carries.shape step.shape;
+  failures = rose_more given said _ _ _ carries.failures step.never_falls step.fault;
+  calls =
+      step.calls ∙ ap (counted (completes_call one said)) carries.calls ∙ count_one (completes_call one said) first.core.calls (calls_in asked given)
+      ∙ ap (λ (n : ℕ). min (first.core.calls + n) (2 ^ 64 - 1)) (sym (calls_more asked given one said carries.each));
+  entries = step.entries ∙ carries.entries;
+}
 
 -- nothing more
-pub carries_still : {V : Type 0} (tells : Bool) (faults : V → ℕ) (events : List Event) (given : List Answer) (first middle last : CoreView V)
-    → Carries tells faults events given first middle → MakesNone tells faults middle last → Carries tells faults events given first last
-carries_still tells faults events given first middle last carries none = record {
+pub carries_still : {V : Type 0} (tells : Bool) (faults : V → ℕ) (asked : List Asked) (given : List Answer) (first middle last : Sessions V)
+    → Carries tells faults asked given first middle → MakesNone tells faults middle last → Carries tells faults asked given first last
+carries_still tells faults asked given first middle last carries none = record {
   each = carries.each;
-  runs = λ told. run_still events given first middle last (carries.runs told) (none.stands told);
-  shape = made_still events given first middle last carries.shape none.unchanged;
+  plays = λ told. plays_still by_machine Represents asked given first middle last (carries.plays told) (none.stands told);
+  shape = plays_still in_shape RepresentsButWords asked given first middle last carries.shape none.shape;
   failures = omega (arith, carries.failures, none.never_falls);
-  calls = none.unchanged.calls ∙ carries.calls;
+  calls = none.calls ∙ carries.calls;
+  entries = none.entries ∙ carries.entries;
 }
 
 -- what a line's answer was, where it has one
-none_asked : (found : Option Event) → false ≡ is_some found → found ≡ None
+none_asked : (found : Option Asked) → false ≡ is_some found → found ≡ None
 none_asked None test = refl
 none_asked (Some asked) test = cc
 
 -- one line more
-pub carries_line : {V : Type 0} (tells : Bool) (faults : V → ℕ) (events : List Event) (given : List Answer) (line : List ℕ) (one : Option Answer) (first middle last : CoreView V)
-    → Carries tells faults events given first middle → CarriesLine tells faults line one middle last → is_some one ≡ is_some (event_of_line line)
-    → Carries tells faults (events ++ events_in (line ∷ [])) (given ++ option_to_list one) first last
-carries_line tells faults events given line None first middle last carries none test =
-    subst (λ (e : List Event). Carries tells faults e (given ++ []) first last) (sym (ap (λ (found : Option Event). events ++ cons_option found []) (none_asked (event_of_line line) test) ∙ append-nil events))
-    (subst (λ (a : List Answer). Carries tells faults events a first last) (sym (append-nil given)) (carries_still tells faults events given first middle last carries none))
-carries_line tells faults events given line (Some one) first middle last carries step test =
-    subst (λ (e : List Event). Carries tells faults e (given ++ one ∷ []) first last) (sym (ap (λ (found : Option Event). events ++ cons_option found []) step.1))
-    (carries_more tells faults events given step.0 one first middle last carries step.2)
+pub carries_line : {V : Type 0} (tells : Bool) (faults : V → ℕ) (asked : List Asked) (given : List Answer) (line : List ℕ) (one : Option Answer) (first middle last : Sessions V)
+    → Carries tells faults asked given first middle → CarriesLine tells faults line one middle last → is_some one ≡ is_some (asked_of_line line)
+    → Carries tells faults (asked ++ asked_in (line ∷ [])) (given ++ option_to_list one) first last
+carries_line tells faults asked given line None first middle last carries none test =
+    subst (λ (e : List Asked). Carries tells faults e (given ++ []) first last) (sym (ap (λ (found : Option Asked). asked ++ cons_option found []) (none_asked (asked_of_line line) test) ∙ append-nil asked))
+    (subst (λ (a : List Answer). Carries tells faults asked a first last) (sym (append-nil given)) (carries_still tells faults asked given first middle last carries none))
+carries_line tells faults asked given line (Some one) first middle last carries step test =
+    subst (λ (e : List Asked). Carries tells faults e (given ++ one ∷ []) first last) (sym (ap (λ (found : Option Asked). asked ++ cons_option found []) step.1))
+    (carries_more tells faults asked given step.0 one first middle last carries step.2)
 
--- from where a core stood, events that it carried out are a session
-pub session_carried : {V : Type 0} (tells : Bool) (faults : V → ℕ) (events : List Event) (given : List Answer) (first last : CoreView V) (start : State)
-    → Carries tells faults events given first last → IsTrue tells → Represents start first → IsSession start events given
-session_carried tells faults events given first last start carries told stands =
-    let run : IsRun start events given last = carries.runs told start stands in
-    record { each = carries.each; outside_fits = run.outside_fits; answers = run.answers }
-
-pub stands_carried : {V : Type 0} (tells : Bool) (faults : V → ℕ) (events : List Event) (given : List Answer) (first last : CoreView V) (start : State)
-    → Carries tells faults events given first last → IsTrue tells → Represents start first → Represents (state_behind start events given) last
-stands_carried tells faults events given first last start carries told stands =
-    let run : IsRun start events given last = carries.runs told start stands in run.stands
-
-completed_few : (events : List Event) (given : List Answer) → completed_in events given ≤ length given
-completed_few events [] = omega arith
+completed_few : (asked : List Asked) (given : List Answer) → calls_in asked given ≤ length given
+completed_few asked [] = omega arith
 completed_few [] (one ∷ given) = omega arith
-completed_few (asked ∷ events) (one ∷ given) = by_test (completes asked one) (completed_few events given)
+completed_few (first ∷ asked) (one ∷ given) = by_test (completes_call first one) (completed_few asked given)
   where
-    by_test : (test : Bool) → completed_in events given ≤ length given → cond test 1 0 + completed_in events given ≤ length (one ∷ given)
+    by_test : (test : Bool) → calls_in asked given ≤ length given → cond test 1 0 + calls_in asked given ≤ length (one ∷ given)
     by_test true few = omega (arith, few)
     by_test false few = omega (arith, few)
 
-events_few : (lines : List (List ℕ)) → length (events_in lines) ≤ length lines
-events_few [] = omega arith
-events_few (line ∷ lines) = by_event (event_of_line line) (events_few lines)
+asked_few : (lines : List (List ℕ)) → length (asked_in lines) ≤ length lines
+asked_few [] = omega arith
+asked_few (line ∷ lines) = by_asked (asked_of_line line) (asked_few lines)
   where
-    by_event : (found : Option Event) → length (events_in lines) ≤ length lines → length (cons_option found (events_in lines)) ≤ length (line ∷ lines)
-    by_event None few = omega (arith, few)
-    by_event (Some asked) few = omega (arith, few)
+    by_asked : (found : Option Asked) → length (asked_in lines) ≤ length lines → length (cons_option found (asked_in lines)) ≤ length (line ∷ lines)
+    by_asked None few = omega (arith, few)
+    by_asked (Some asked) few = omega (arith, few)
 
 -- the calls that a core counted from none are all that were completed, where there were few lines
-calls_counted : (lines : List (List ℕ)) (given : List Answer) (before after : ℕ) → length given ≡ length (events_in lines) → length lines ≤ 1048576 → before ≡ 0
-    → after ≡ min (before + completed_in (events_in lines) given) (2 ^ 64 - 1) → after ≡ completed_in (events_in lines) given
+calls_counted : (lines : List (List ℕ)) (given : List Answer) (before after : ℕ) → length given ≡ length (asked_in lines) → length lines ≤ 1048576 → before ≡ 0
+    → after ≡ min (before + calls_in (asked_in lines) given) (2 ^ 64 - 1) → after ≡ calls_in (asked_in lines) given
 calls_counted lines given before after each few none counted =
-    let all : completed_in (events_in lines) given ≤ length given = completed_few (events_in lines) given in
-    let events : length (events_in lines) ≤ length lines = events_few lines in
-    omega (arith, all, events, each, few, none, counted)
+    let all : calls_in (asked_in lines) given ≤ length given = completed_few (asked_in lines) given in
+    let asked : length (asked_in lines) ≤ length lines = asked_few lines in
+    omega (arith, all, asked, each, few, none, counted)
 
--- the trail of a core is that of the state that it stands for
-pub trail_carried : {V : Type 0} (state : State) (core : CoreView V) → Represents state core → core.hub.trail ≡ state.shared.trail
-trail_carried state core stands = sym stands.parts.shared.trail
+summed : ℕ → ℕ → Past → List Item → ℕ → Summary
+summed lines calls past items version = record {
+  lines = lines;
+  calls = calls;
+  commits = added past.commits (commit_count items);
+  rollbacks = added past.rollbacks (rollback_count items);
+  version = version;
+}
 
--- what a core tells is what the last line is to tell
-pub summary_carried : {V : Type 0} (tells : Bool) (faults : V → ℕ) (lines : List (List ℕ)) (given : List Answer) (first last : CoreView V) (start : State) (count : ℕ)
-    → Carries tells faults (events_in lines) given first last → IsTrue tells → Represents start first → first.calls ≡ 0 → length lines ≤ 1048576
-    → summary_in count last ≡ summary_of count start (events_in lines) given
-summary_carried tells faults lines given first last start count carries told stands none few =
-    let state : State = state_behind start (events_in lines) given in
-    let behind = stands_carried tells faults (events_in lines) given first last start carries told stands in
-    let trail : last.hub.trail ≡ trail_behind start (events_in lines) given = trail_carried _ last behind in
-    let version : last.told.version ≡ (state_behind start (events_in lines) given).vault.version = ap (λ (v : VaultState). v.version) (sym behind.parts.vault) in
-    let calls : last.calls ≡ completed_in (events_in lines) given = calls_counted lines given first.calls last.calls carries.each few none carries.calls in
-    let summed : ℕ → List Item → ℕ → Summary = λ k t v. record { lines = count; calls = k; commits = commit_count t; rollbacks = rollback_count t; version = v } in
-    ap (λ (k : ℕ). summed k last.hub.trail last.told.version) calls
-    ∙ ap (λ (t : List Item). summed (completed_in (events_in lines) given) t last.told.version) trail
-    ∙ ap (summed (completed_in (events_in lines) given) (trail_behind start (events_in lines) given)) version
+-- what sessions tell is what the last line is to tell, but for the version
+told_but_version : {V : Type 0} (tells : Bool) (faults : V → ℕ) (lines : List (List ℕ)) (given : List Answer) (first last : Sessions V) (standing : Standing) (count : ℕ)
+    → Carries tells faults (asked_in lines) given first last → first.core.calls ≡ 0 → length lines ≤ 1048576 → length lines ≡ count
+    → last.past ≡ standing.past → last.core.hub.trail ≡ standing.state.shared.trail
+    → summary_in count last ≡ record (summary_of (length lines) (asked_in lines) given standing) { version = last.core.told.version }
+unfolding summed
+told_but_version tells faults lines given first last standing count carries none few all past trail =
+    let calls : last.core.calls ≡ calls_in (asked_in lines) given = calls_counted lines given first.core.calls last.core.calls carries.each few none carries.calls in
+    ap (λ (n : ℕ). summed n last.core.calls last.past last.core.hub.trail last.core.told.version) (sym all)
+    ∙ ap (λ (k : ℕ). summed (length lines) k last.past last.core.hub.trail last.core.told.version) calls
+    ∙ ap (λ (p : Past). summed (length lines) (calls_in (asked_in lines) given) p last.core.hub.trail last.core.told.version) past
+    ∙ ap (λ (t : List Item). summed (length lines) (calls_in (asked_in lines) given) standing.past t last.core.told.version) trail
 
--- over every vault it tells how many lines there were, and of the answers and the trail
-pub shape_carried : {V : Type 0} (tells : Bool) (faults : V → ℕ) (lines : List (List ℕ)) (given : List Answer) (first last : CoreView V) (count : ℕ)
-    → Carries tells faults (events_in lines) given first last → first.calls ≡ 0 → length lines ≤ 1048576 → count ≡ length lines
-    → TellsInShape (end.Done (summary_in count last)) (length lines) (events_in lines) given last.hub.trail
-shape_carried tells faults lines given first last count carries none few all =
-    let calls : last.calls ≡ completed_in (events_in lines) given = calls_counted lines given first.calls last.calls carries.each few none carries.calls in
-    let summed : ℕ → ℕ → Summary = λ n k. record { lines = n; calls = k; commits = commit_count last.hub.trail; rollbacks = rollback_count last.hub.trail; version = last.told.version } in
-    ap (λ (n : ℕ). summed n last.calls) all ∙ ap (summed (length lines)) calls
+pub shape_told : {V : Type 0} (tells : Bool) (faults : V → ℕ) (lines : List (List ℕ)) (given : List Answer) (first last : Sessions V) (standing : Standing) (count : ℕ)
+    → Carries tells faults (asked_in lines) given first last → first.core.calls ≡ 0 → length lines ≤ 1048576 → length lines ≡ count
+    → StandsBy RepresentsButWords standing last → TellsButVersion (end.Done (summary_in count last)) (summary_of (length lines) (asked_in lines) given standing)
+shape_told tells faults lines given first last standing count carries none few all stands =
+    told_but_version tells faults lines given first last standing count carries none few all stands.past (sym stands.state.shared.trail)
 
--- a step of a core, by the cores that were there before and after it
-pub step_kept : {V : Type 0} (tells : Bool) (faults : V → ℕ) (asked : Event) (given : Answer) (before middle after last : CoreView V) → middle ≡ before → last ≡ after
-    → MakesStep tells faults asked given middle after → MakesStep tells faults asked given before last
-step_kept tells faults asked given before middle after last same same_after step =
-    subst (λ core. MakesStep tells faults asked given core last) same (subst (λ core. MakesStep tells faults asked given middle core) (sym same_after) step)
+pub summary_told : {V : Type 0} (tells : Bool) (faults : V → ℕ) (lines : List (List ℕ)) (given : List Answer) (first last : Sessions V) (standing : Standing) (count : ℕ)
+    → Carries tells faults (asked_in lines) given first last → first.core.calls ≡ 0 → length lines ≤ 1048576 → length lines ≡ count
+    → StandsBy Represents standing last → TellsOf (end.Done (summary_in count last)) (summary_of (length lines) (asked_in lines) given standing)
+unfolding summed
+summary_told tells faults lines given first last standing count carries none few all stands =
+    told_but_version tells faults lines given first last standing count carries none few all stands.past (sym stands.state.parts.shared.trail)
+    ∙ ap (λ (v : VaultState). summed (length lines) (calls_in (asked_in lines) given) standing.past standing.state.shared.trail v.version) (sym stands.state.parts.vault)
+
+-- an event was carried out
+pub event_step : {V : Type 0} (tells : Bool) (faults : V → ℕ) (event : Event) (given : Answer) (old : Sessions V) (after : CoreView V)
+    → (IsTrue tells → Steps event given old.core after) → StepsInShape event given old.core after
+    → (IsTrue (is_fault given) → FaultCountRose (faults old.core.vault) (faults after.vault)) → faults old.core.vault ≤ faults after.vault
+    → after.calls ≡ counted (completes event given) old.core.calls → MakesStep tells faults (asks.Event event) given old (record old { core = after })
+event_step tells faults event given old after steps shape fault falls calls = record {
+  step = λ told standing stands.
+      let made : IsAnswered standing.state event given after = steps told standing.state stands.state in
+      (record standing { state = by_machine.after standing.state event given }, (record { outside_fits = made.outside_fits; answers = made.answers }, refl), record { state = made.stands; past = stands.past });
+  shape = λ standing stands.
+      let made : IsMade standing.state event given after = shape standing.state stands.state in
+      (record standing { state = in_shape.after standing.state event given }, (made.answers, refl), record { state = made.shape; past = stands.past });
+  fault = fault;
+  never_falls = falls;
+  calls = calls;
+  entries = refl;
+}
+
+-- or it was not, and nothing has changed
+pub event_none : {V : Type 0} (tells : Bool) (faults : V → ℕ) (old : Sessions V) (after : CoreView V) → (IsTrue tells → (state : State) → Represents state old.core → Represents state after)
+    → IsUnchanged old.core after → faults old.core.vault ≤ faults after.vault → MakesNone tells faults old (record old { core = after })
+event_none tells faults old after stands same falls = record {
+  stands = λ told standing was. record { state = stands told standing.state was.state; past = was.past };
+  shape = λ standing was. record { state = shape_unchanged standing.state old.core after same was.state; past = was.past };
+  never_falls = falls;
+  calls = same.calls;
+  entries = refl;
+}
+
+pub reopen_none : {V : Type 0} (tells : Bool) (faults : V → ℕ) (old : Sessions V) (after : CoreView V) → (IsTrue tells → (state : State) → Represents state old.core → Represents state after)
+    → ((state : State) → RepresentsButWords state old.core → RepresentsButWords state after) → after.calls ≡ old.core.calls → faults old.core.vault ≤ faults after.vault
+    → MakesNone tells faults old (record old { core = after })
+reopen_none tells faults old after stands shape calls falls = record {
+  stands = λ told standing was. record { state = stands told standing.state was.state; past = was.past };
+  shape = λ standing was. record { state = shape standing.state was.state; past = was.past };
+  never_falls = falls;
+  calls = calls;
+  entries = refl;
+}
+
+-- the limits of a core are those of the state that it stands for
+held_by : {V : Type 0} (core : CoreView V) → IsSound core → (own_part core.capacity 0 (cache_at core 0)).capacity ≡ core.capacity
+held_by core sound =
+    let by_place = elim (cache_at core 0) as (λ place. cache_at core 0 ≡ place → (own_part core.capacity 0 place).capacity ≡ core.capacity) [
+      | None ↦ λ is. refl
+      | Some own ↦ λ is. (sound.kept 0 own is).capacity
+    ] in by_place refl
+
+begins_again : {V : Type 0} (entries : ℕ) (state : State) (core after : CoreView V) (found : VaultState) → IsSound core → Shows state.shared core.hub
+    → own_at state 0 ≡ own_part core.capacity 0 (cache_at core 0) → after.size ≡ core.size → after.capacity ≡ core.capacity
+    → start found after.size entries after.capacity ≡ begun_again entries state found
+begins_again entries state core after found sound shows own size capacity =
+    ap₂ (λ (pages held : ℕ). start found pages entries held) (size ∙ sound.size ∙ sym shows.pages)
+    (capacity ∙ sym (held_by core sound) ∙ sym (ap (λ (one : machine.Own). one.capacity) own))
+
+no_fault : (given : Answer) (version : ℕ) → given ≡ answer.Reopened version → IsTrue (is_fault given) → ⊥
+no_fault given version is fault = true≢false (sym fault ∙ ap is_fault is)
+
+-- the store was opened again
+module _ {V : Type 0} (old : Sessions V) (after : CoreView V) (past : Past) (sound : IsSound old.core) (past_is : past ≡ past_with old.past old.core.hub.trail)
+    (size : after.size ≡ old.core.size) (capacity : after.capacity ≡ old.core.capacity) (given : Answer) (given_is : given ≡ answer.Reopened after.told.version) where
+  again : Sessions V
+  again = record { core = after; entries = old.entries; past = past }
+
+  next : Standing → Standing
+  next standing = record { found = after.told; state = begun_again old.entries standing.state after.told; past = past_with standing.past standing.state.shared.trail }
+
+  reopened_by : (rules : Rules) (IsOf : State → CoreView V → Type 0) (standing : Standing) → StandsBy IsOf standing old → Shows standing.state.shared old.core.hub
+      → own_at standing.state 0 ≡ own_part old.core.capacity 0 (cache_at old.core 0) → rules.Finds standing.state.vault after.told
+      → IsOf (start after.told after.size old.entries after.capacity) after
+      → (next : Standing) × Takes rules old.entries standing asks.Reopen given next × StandsBy IsOf next again
+  unfolding again next
+  reopened_by rules IsOf standing stands shows own finds begins = (
+    next standing,
+    (after.told, finds, given_is, refl),
+    record {
+      state = subst (λ (s : State). IsOf s after) (begins_again old.entries standing.state old.core after after.told sound shows own size capacity) begins;
+      past = past_is ∙ ap₂ past_with stands.past (sym shows.trail);
+    },
+  )
+
+  pub reopen_step : (tells : Bool) (faults : V → ℕ) → (IsTrue tells → Represents (start after.told after.size old.entries after.capacity) after)
+      → RepresentsButWords (start after.told after.size old.entries after.capacity) after → (IsTrue tells → IsFound old.core.told after.told)
+      → after.calls ≡ old.core.calls → faults old.core.vault ≤ faults after.vault
+      → MakesStep tells faults asks.Reopen given old (record { core = after; entries = old.entries; past = past })
+  unfolding again
+  reopen_step tells faults stands shape found calls falls = record {
+    step = λ told standing was.
+        reopened_by by_machine Represents standing was was.state.parts.shared (was.state.parts.owns 0 (omega arith))
+        (subst (λ (v : VaultState). IsFound v after.told) (sym was.state.parts.vault) (found told)) (stands told);
+    shape = λ standing was. reopened_by in_shape RepresentsButWords standing was was.state.shared (was.state.owns 0 (omega arith)) tt shape;
+    fault = λ fault. absurd (no_fault given after.told.version given_is fault);
+    never_falls = falls;
+    calls = calls;
+    entries = refl;
+  }

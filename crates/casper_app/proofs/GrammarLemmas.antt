@@ -10,8 +10,10 @@ use Rattle.casper_text.specs.Number.{number_of}
 use Rattle.casper_text.proofs.NumberLemmas.{number_read_back, number_text}
 use Rattle.casper_model.specs.declared.event.Event.{Event}
 use Rattle.casper_model.specs.declared.event.Event.TheVariants as event
-use Rattle.casper_app.specs.Schedule.{client_of, lone_client, place_of, want_of, each_want, are_wants, rising_wants, wants_of, join_of, read_of, write_of, acquire_of, serve_of, depart_of, vanish_of, lose_of, stabilise_of, write_out_of, finish_of, settle_of, event_of_verb}
-use Rattle.casper_app.specs.Grammar.{want_text, words_of_event, AreAsked, IsEvent, EventsAreReadBack, EventsHaveOneText}
+use Rattle.casper_app.specs.Schedule.{client_of, lone_client, place_of, want_of, each_want, are_wants, rising_wants, wants_of, join_of, read_of, write_of, acquire_of, serve_of, depart_of, vanish_of, lose_of, stabilise_of, write_out_of, finish_of, settle_of, event_of, event_of_verb, is_reopen, asked_of}
+use Rattle.casper_app.specs.declared.schedule.Asked.{Asked}
+use Rattle.casper_app.specs.declared.schedule.Asked.TheVariants as asks
+use Rattle.casper_app.specs.Grammar.{want_text, words_of_event, words_of_asked, AreAsked, IsEvent, IsAskable, EventsAreReadBack, EventsHaveOneText, LinesAreReadBack, LinesHaveOneText}
 use Rattle.casper_app.proofs.WantLemmas.{want_read_back, text_of_want, wants_found, wants_pass, each_more}
 
 -- what a chain of optional values gives, where it gives one
@@ -265,3 +267,49 @@ event_text verb rest asked =
 pub events_have_one_text : EventsHaveOneText
 events_have_one_text [] asked asks = nothing_asked asked asks
 events_have_one_text (verb ∷ rest) asked asks = event_text verb rest asked asks
+
+-- no event's line is a reopen's
+no_reopen : (asked : Event) → IsEvent asked → is_reopen (words_of_event asked) ≡ false
+no_reopen (event.Join who) is = refl
+no_reopen (event.Read who page word) is = refl
+no_reopen (event.Write who page word value) is = refl
+no_reopen (event.Acquire who wants) is = refl
+no_reopen (event.Serve who) is = refl
+no_reopen (event.Depart who) is = refl
+no_reopen (event.Hold who wants) is = absurd is
+no_reopen (event.Stabilise who) is = refl
+no_reopen (event.WriteOut lead) is = refl
+no_reopen (event.Finish lead) is = refl
+no_reopen event.Settle is = refl
+no_reopen (event.Vanish who) is = refl
+no_reopen (event.Lose who) is = refl
+
+pub lines_are_read_back : LinesAreReadBack
+lines_are_read_back (asks.Event asked) is =
+    ap (λ (test : Bool). cond test (Some asks.Reopen) (option_map (λ (one : Event). asks.Event one) (event_of (words_of_event asked)))) (no_reopen asked is)
+    ∙ ap (option_map (λ (one : Event). asks.Event one)) (events_are_read_back asked is)
+lines_are_read_back asks.Reopen is = refl
+
+HasLine : List (List ℕ) → Asked → Type 0
+HasLine words one = IsAskable one × (words ≡ words_of_asked one)
+
+-- words of no reopen ask for an event
+event_line : (words : List (List ℕ)) (one : Asked) → option_map (λ (e : Event). asks.Event e) (event_of words) ≡ Some one → HasLine words one
+unfolding HasLine
+event_line words one is =
+    let found = mapped (λ (e : Event). asks.Event e) (event_of words) one is in
+    let text = events_have_one_text words found.0 found.1 in
+    subst (λ (a : Asked). IsAskable a × (words ≡ words_of_asked a)) found.2 text
+
+pub lines_have_one_text : LinesHaveOneText
+unfolding HasLine
+lines_have_one_text [] one is = event_line [] one is
+lines_have_one_text (verb ∷ []) one is = by_test (bytes_eq verb (codes "reopen")) (bytes_eq-Decides verb (codes "reopen")).0 is
+  where
+    by_test : (test : Bool) → (test ≡ true → verb ≡ codes "reopen") → cond test (Some asks.Reopen) (option_map (λ (e : Event). asks.Event e) (event_of (verb ∷ []))) ≡ Some one
+        → IsAskable one × (verb ∷ [] ≡ words_of_asked one)
+    by_test true same is =
+        let reopens : asks.Reopen ≡ one = cc in
+        subst (λ (a : Asked). IsAskable a × (verb ∷ [] ≡ words_of_asked a)) reopens (tt, ap (λ (v : List ℕ). v ∷ []) (same refl))
+    by_test false same is = event_line (verb ∷ []) one is
+lines_have_one_text (verb ∷ next ∷ rest) one is = event_line (verb ∷ next ∷ rest) one is

@@ -3,6 +3,7 @@ pub mod CarryLemmas
 pub mod ChainLemmas
 pub mod CommandLawLemmas
 pub mod GrammarLemmas
+pub mod LimitLemmas
 pub mod LineLawLemmas
 pub mod ReadingLemmas
 pub mod RunLemmas

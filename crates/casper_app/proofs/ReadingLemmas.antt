@@ -10,17 +10,19 @@ use Rattle.casper_io.specs.Lines.{TakesLine, TakesEnd}
 use Rattle.casper_io.specs.Reading.{most_lines}
 use Rattle.casper_io.specs.Told.{WhereTold, TakesFront}
 use Rattle.casper_space.specs.declared.answer.Answer.{Answer}
+use Rattle.casper_words.specs.Count.{FaultCountRose}
 use Rattle.casper_report.specs.Texts.{answer_line, answer_lines}
-use Rattle.casper_model.specs.declared.event.Event.{Event}
+use Rattle.casper_core.specs.Stepping.{RoseBy}
 use Rattle.casper_app.specs.declared.cause.Cause.{Cause}
 use Rattle.casper_app.specs.declared.cause.Cause.TheVariants as cause
 use Rattle.casper_app.specs.declared.outlet.Outlet.{Outlet}
 use Rattle.casper_app.specs.declared.replay.Replay.{Replay}
+use Rattle.casper_app.specs.declared.schedule.Asked.{Asked}
 use Rattle.casper_app.specs.declared.schedule.Parsed.{Parsed}
 use Rattle.casper_app.specs.declared.schedule.Parsed.TheVariants as parsed
 use Rattle.casper_app.specs.Schedule.{parsed_line}
 use Rattle.casper_app.specs.Carrying.{Carries}
-use Rattle.casper_app.specs.Lines.{event_of_parsed, event_of_line, events_in, IsTaken, IsTakenAs, AreTaken}
+use Rattle.casper_app.specs.Lines.{asked_of_parsed, asked_of_line, asked_in, IsTaken, IsTakenAs, AreTaken}
 use Rattle.casper_app.specs.Outlet.{keeps, writes, kept_of, written_of}
 use Rattle.casper_app.specs.Reading.{Stands, IsReading, stop_of}
 use Rattle.casper_app.specs.Replay.{AsksLast, EndsFor, WritesButTheLast, WritesAnswers}
@@ -31,16 +33,16 @@ taken_more : (lines : List (List ℕ)) (line : List ℕ) → AreTaken lines → 
 taken_more [] line each one = (one, tt)
 taken_more (first ∷ lines) line each one = (each.0, taken_more lines line each.1 one)
 
--- a line that asks for an event is none that is refused
-taken_as : (said : Parsed) (asked : Event) → event_of_parsed said ≡ Some asked → IsTakenAs said
-taken_as parsed.Skip asked asks = tt
-taken_as (parsed.Event one) asked asks = tt
-taken_as parsed.Unbuilt asked asks = cc
-taken_as parsed.Bad asked asks = cc
+-- a line that asks for something is none that is refused
+taken_as : (said : Parsed) (asked : Asked) → asked_of_parsed said ≡ Some asked → IsTakenAs said
+taken_as parsed.Skip asked is = tt
+taken_as (parsed.Asked one) asked is = tt
+taken_as parsed.Unbuilt asked is = cc
+taken_as parsed.Bad asked is = cc
 
--- the events of one more line
-pub events_more : (lines : List (List ℕ)) (line : List ℕ) → events_in (lines ++ line ∷ []) ≡ events_in lines ++ events_in (line ∷ [])
-events_more lines line = filter_map-append event_of_line lines (line ∷ [])
+-- what is asked for by one more line
+pub asked_more : (lines : List (List ℕ)) (line : List ℕ) → asked_in (lines ++ line ∷ []) ≡ asked_in lines ++ asked_in (line ∷ [])
+asked_more lines line = filter_map-append asked_of_line lines (line ∷ [])
 
 -- the answers that are kept, and those that are written, of more answers
 part_more : (test : Bool) (given more : List Answer) → cond test (given ++ more) [] ≡ cond test given [] ++ cond test more []
@@ -71,14 +73,14 @@ none_of true = refl
 none_of false = refl
 
 -- before any line
-pub stands_first : {V : Type 0} (tells : Bool) (faults : V → ℕ) (left taken : Option (List ℕ)) (replay : Replay V) → replay.core.calls ≡ 0 → Stands tells faults 0 left left taken taken replay replay
+pub stands_first : {V : Type 0} (tells : Bool) (faults : V → ℕ) (left taken : Option (List ℕ)) (replay : Replay V) → replay.sessions.core.calls ≡ 0 → Stands tells faults 0 left left taken taken replay replay
 stands_first tells faults left taken replay calls = record {
   lines = [];
   counted = refl;
   reads = refl;
   each = tt;
   given = [];
-  carries = carries_none tells faults replay.core calls;
+  carries = carries_none tells faults replay.sessions calls;
   outlet = refl;
   kept = sym (ap (λ (none : List Answer). replay.answers.items ++ none) (none_of (keeps replay.outlet)) ∙ append-nil replay.answers.items);
   written = sym (ap (λ (none : List Answer). append_known taken (answer_lines none)) (none_of (writes replay.outlet)) ∙ append_known-nil taken);
@@ -88,7 +90,7 @@ stands_first tells faults left taken replay calls = record {
 pub rest_of_front : (text : List ℕ) (count : ℕ) → count < length text → drop count text ≢ []
 rest_of_front text count short none = absurd (omega (arith, length-drop count text, ap length none, short))
 
--- the answer to an event was cut, after the whole text of the answers before it
+-- an answer was cut, after the whole text of the answers before it
 cut_at : (first between last : Option (List ℕ)) (before : List Answer) (given : Answer) (told : List Answer) → told ≡ before ++ given ∷ []
     → between ≡ append_known first (answer_lines before) → TakesFront between last (answer_line given)
     → (out : List ℕ) × (last ≡ append_known first out) × WritesButTheLast told out
@@ -113,12 +115,12 @@ cut_at first between last before given told is start front = (
 -- what a line with an answer comes to, after the lines before it
 module _ {V : Type 0} {tells : Bool} {faults : V → ℕ} {count : ℕ} {first left : Option (List ℕ)} (last : Option (List ℕ)) {taken_first taken : Option (List ℕ)} (taken_last : Option (List ℕ))
     {old middle : Replay V} (new : Replay V) (line : List ℕ) (stands : Stands tells faults count first left taken_first taken old middle) (takes : WhereTold left last (TakesLine line)) where
-  -- the events and the answers of the lines with this one
-  carries_with : (given : Option Answer) → CarriesLine tells faults line given middle.core new.core → is_some given ≡ is_some (event_of_line line)
-      → Carries tells faults (events_in (stands.lines ++ line ∷ [])) (stands.given ++ option_to_list given) old.core new.core
+  -- what the lines with this one ask for, and the answers
+  carries_with : (given : Option Answer) → CarriesLine tells faults line given middle.sessions new.sessions → is_some given ≡ is_some (asked_of_line line)
+      → Carries tells faults (asked_in (stands.lines ++ line ∷ [])) (stands.given ++ option_to_list given) old.sessions new.sessions
   carries_with given carries test =
-      subst (λ (events : List Event). Carries tells faults events (stands.given ++ option_to_list given) old.core new.core) (sym (events_more stands.lines line))
-      (carries_line tells faults (events_in stands.lines) stands.given line given old.core middle.core new.core stands.carries carries test)
+      subst (λ (all : List Asked). Carries tells faults all (stands.given ++ option_to_list given) old.sessions new.sessions) (sym (asked_more stands.lines line))
+      (carries_line tells faults (asked_in stands.lines) stands.given line given old.sessions middle.sessions new.sessions stands.carries carries test)
 
   kept_with : (given : Option Answer) → new.answers.items ≡ middle.answers.items ++ kept_of middle.outlet (option_to_list given)
       → new.answers.items ≡ old.answers.items ++ kept_of old.outlet (stands.given ++ option_to_list given)
@@ -140,11 +142,11 @@ module _ {V : Type 0} {tells : Bool} {faults : V → ℕ} {count : ℕ} {first l
 
   -- a line without an answer that ended the reading
   stays : (said : Cause) → EndsFor (Some said) stands.lines left last (written_of old.outlet stands.given) (written_of old.outlet stands.given) → WritesAnswers (Some said) (written_of old.outlet stands.given) (answer_lines (written_of old.outlet stands.given))
-      → count < most_lines → (given : Option Answer) → given ≡ None → CarriesLine tells faults line given middle.core new.core
+      → count < most_lines → (given : Option Answer) → given ≡ None → CarriesLine tells faults line given middle.sessions new.sessions
       → new.answers.items ≡ middle.answers.items ++ kept_of middle.outlet (option_to_list given) → taken_last ≡ taken
       → IsReading tells faults first last taken_first taken_last old new (Err said)
   stays said ends whole few given none carries kept same =
-      let still = subst (λ (g : Option Answer). CarriesLine tells faults line g middle.core new.core) none carries in
+      let still = subst (λ (g : Option Answer). CarriesLine tells faults line g middle.sessions new.sessions) none carries in
       let all : new.answers.items ≡ old.answers.items ++ kept_of old.outlet (stands.given ++ option_to_list given) = kept_with given kept in
       record {
         lines = stands.lines;
@@ -155,7 +157,7 @@ module _ {V : Type 0} {tells : Bool} {faults : V → ℕ} {count : ℕ} {first l
         counted = tt;
         ends = ends;
         given = stands.given;
-        carries = carries_still tells faults (events_in stands.lines) stands.given old.core middle.core new.core stands.carries still;
+        carries = carries_still tells faults (asked_in stands.lines) stands.given old.sessions middle.sessions new.sessions stands.carries still;
         kept = all ∙ ap (λ (g : Option Answer). old.answers.items ++ kept_of old.outlet (stands.given ++ option_to_list g)) none
             ∙ ap (λ (g : List Answer). old.answers.items ++ kept_of old.outlet g) (append-nil stands.given);
         out = answer_lines (written_of old.outlet stands.given);
@@ -164,14 +166,14 @@ module _ {V : Type 0} {tells : Bool} {faults : V → ℕ} {count : ℕ} {first l
         written = whole;
       }
 
-  -- a line whose event was carried out, and whose answer was not written whole
-  carried : (said : Cause) (one : Answer) (asked : Event) → event_of_line line ≡ Some asked → (given : Option Answer) → given ≡ Some one → CarriesLine tells faults line given middle.core new.core
+  -- a line that was answered, and whose answer was not written whole
+  carried : (said : Cause) (one : Answer) (asked : Asked) → asked_of_line line ≡ Some asked → (given : Option Answer) → given ≡ Some one → CarriesLine tells faults line given middle.sessions new.sessions
       → new.answers.items ≡ middle.answers.items ++ kept_of middle.outlet (option_to_list given) → count < most_lines
       → (told : List Answer) → EndsFor (Some said) (stands.lines ++ line ∷ []) last last (written_of old.outlet (stands.given ++ one ∷ [])) told
       → (out : List ℕ) → taken_last ≡ append_known taken_first out → WritesAnswers (Some said) told out
       → IsReading tells faults first last taken_first taken_last old new (Err said)
   carried said one asked asks given some carries kept few told ends out taken_is written =
-      let test : is_some given ≡ is_some (event_of_line line) = ap is_some some ∙ sym (ap is_some asks) in
+      let test : is_some given ≡ is_some (asked_of_line line) = ap is_some some ∙ sym (ap is_some asks) in
       let all = carries_with given carries test in
       let both : new.answers.items ≡ old.answers.items ++ kept_of old.outlet (stands.given ++ option_to_list given) = kept_with given kept in
       record {
@@ -183,7 +185,7 @@ module _ {V : Type 0} {tells : Bool} {faults : V → ℕ} {count : ℕ} {first l
         counted = tt;
         ends = ends;
         given = stands.given ++ one ∷ [];
-        carries = subst (λ (g : Option Answer). Carries tells faults (events_in (stands.lines ++ line ∷ [])) (stands.given ++ option_to_list g) old.core new.core) some all;
+        carries = subst (λ (g : Option Answer). Carries tells faults (asked_in (stands.lines ++ line ∷ [])) (stands.given ++ option_to_list g) old.sessions new.sessions) some all;
         kept = both ∙ ap (λ (g : Option Answer). old.answers.items ++ kept_of old.outlet (stands.given ++ option_to_list g)) some;
         out = out;
         taken_is = taken_is;
@@ -197,13 +199,13 @@ module _ {V : Type 0} {tells : Bool} {faults : V → ℕ} {count : ℕ} {first l
       part_more (writes old.outlet) stands.given (one ∷ [])
       ∙ ap (λ (w : List Answer). written_of old.outlet stands.given ++ w) (sym (ap (λ (o : Outlet). written_of o (one ∷ [])) stands.outlet) ∙ due)
 
-  last_asks : (asked : Event) → event_of_line line ≡ Some asked → AsksLast (stands.lines ++ line ∷ [])
+  last_asks : (asked : Asked) → asked_of_line line ≡ Some asked → AsksLast (stands.lines ++ line ∷ [])
   last_asks asked asks = record { front = stands.lines; line = line; is_last = refl; asked = asked; asks = asks }
 
-  -- memory was short before a line's event was carried out, or for the text of its answer
-  pub short_of_memory : (given : Option Answer) → CarriesLine tells faults line given middle.core new.core
+  -- memory was short before a line was answered, or for the text of its answer
+  pub short_of_memory : (given : Option Answer) → CarriesLine tells faults line given middle.sessions new.sessions
       → new.answers.items ≡ middle.answers.items ++ kept_of middle.outlet (option_to_list given) → count < most_lines → taken_last ≡ taken
-      → IsDue middle.outlet given → (asked : Event) → event_of_line line ≡ Some asked
+      → IsDue middle.outlet given → (asked : Asked) → asked_of_line line ≡ Some asked
       → IsReading tells faults first last taken_first taken_last old new (Err cause.Memory)
   short_of_memory None carries kept few same due asked asks =
       stays cause.Memory (inr (inl (omega (arith, stands.counted, few), (line, takes, asked, asks), refl))) refl few None refl carries kept same
@@ -213,12 +215,12 @@ module _ {V : Type 0} {tells : Bool} {faults : V → ℕ} {count : ℕ} {first l
       (answer_lines (written_of old.outlet stands.given)) (same ∙ stands.written) refl
 
   -- the sink failed at the answer
-  pub cut_short : (one : Answer) (given : Option Answer) → given ≡ Some one → CarriesLine tells faults line given middle.core new.core
+  pub cut_short : (one : Answer) (given : Option Answer) → given ≡ Some one → CarriesLine tells faults line given middle.sessions new.sessions
       → new.answers.items ≡ middle.answers.items ++ kept_of middle.outlet (option_to_list given) → count < most_lines
       → written_of middle.outlet (one ∷ []) ≡ one ∷ [] → TakesFront taken taken_last (answer_line one)
       → IsReading tells faults first last taken_first taken_last old new (Err cause.Write)
   cut_short one given some carries kept few whole front =
-      let step = subst (λ (g : Option Answer). CarriesLine tells faults line g middle.core new.core) some carries in
+      let step = subst (λ (g : Option Answer). CarriesLine tells faults line g middle.sessions new.sessions) some carries in
       let cut = cut_at taken_first taken taken_last (written_of old.outlet stands.given) one
       (written_of old.outlet (stands.given ++ one ∷ [])) (with_last one whole) stands.written front in
       carried cause.Write one step.0 step.1 given some carries kept few
@@ -230,6 +232,10 @@ module _ {V : Type 0} {tells : Bool} {faults : V → ℕ} {count : ℕ} {first l
   reading_refused cause.Usage few input = absurd input.writes
   reading_refused cause.Read few input = absurd input.writes
   reading_refused cause.Write few input = cut_short input.writes.0 input.given input.writes.1 input.carries input.kept few input.writes.2 input.writes.3
+  reading_refused cause.Disk few input =
+      stays cause.Disk (omega (arith, stands.counted, few), (line, takes, input.writes.0), refl) refl few input.given input.writes.1 input.carries input.kept input.writes.2
+  reading_refused (cause.Refused refusal) few input =
+      stays (cause.Refused refusal) (omega (arith, stands.counted, few), (line, takes, input.writes.0), refl) refl few input.given input.writes.1 input.carries input.kept input.writes.2
   reading_refused cause.Memory few input = short_of_memory input.given input.carries input.kept few input.writes.0 input.writes.1 input.writes.2 input.writes.3
   reading_refused (cause.BadLine n) few input =
       stays (cause.BadLine n) (input.writes.0 ∙ ap (λ (k : ℕ). k + 1) (sym stands.counted), (line, inr (takes, inl input.writes.1)), refl) refl few
@@ -276,6 +282,8 @@ module _ {V : Type 0} {tells : Bool} {faults : V → ℕ} {count : ℕ} {first l
   reading_failed cause.Usage few next = absurd next
   reading_failed cause.Read few next = ended (Err cause.Read) few tt (next, refl) refl
   reading_failed cause.Write few next = absurd next
+  reading_failed cause.Disk few next = absurd next
+  reading_failed (cause.Refused refusal) few next = absurd next
   reading_failed cause.Memory few next = absurd next
   reading_failed (cause.BadLine n) few next =
       ended (Err (cause.BadLine n)) few tt (next.0 ∙ ap (λ (k : ℕ). k + 1) (sym stands.counted), (next.1, inl next.2), refl) refl
@@ -306,3 +314,7 @@ is_line P Q false e h = cc
 pub err_is : {T : Type 0} (result : Result T Cause) (why : Cause) (P : Result T Cause → Type 0) → IsErrAnd result (λ e. e ≡ why) → P (Err why) → P result
 err_is (Ok x) why P fails h = absurd fails
 err_is {T} (Err e) why P fails h = subst (λ (f : Cause). P (Err f)) (sym fails) h
+
+-- a count of faults that rose later rose
+pub rose_later : (count before middle now : ℕ) → RoseBy count before middle → FaultCountRose middle now → FaultCountRose before now
+rose_later count before middle now first later = omega (arith, first, later)

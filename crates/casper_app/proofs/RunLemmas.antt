@@ -14,12 +14,12 @@ use Rattle.casper_io.specs.declared.fault.IoFault.TheVariants as fault
 use Rattle.casper_io.specs.declared.lines.Next.TheVariants as next
 use Rattle.casper_trail.specs.declared.item.Item.{Item}
 use Rattle.casper_trail.specs.Legal.{IsLegal}
-use Rattle.casper_model.specs.declared.event.Event.{Event}
 use Rattle.casper_model.specs.State.{State, zero_vault}
 use Rattle.casper_model.specs.WholeHistory.{whole_of}
 use Rattle.casper_core.specs.Represents.{Represents}
-use Rattle.casper_core.specs.Shaped.{RepresentsButWords, IsRunMade}
+use Rattle.casper_core.specs.Shaped.{RepresentsButWords}
 use Rattle.casper_core.specs.Stepping.{RoseBy, failures_in}
+use Rattle.casper_sessions.specs.Chain.{Limits}
 use Rattle.casper_space.specs.declared.answer.Answer.{Answer}
 use Rattle.casper_report.specs.Texts.{answer_lines}
 use Rattle.casper_report.specs.declared.summary.Summary.{Summary}
@@ -30,54 +30,58 @@ use Rattle.casper_app.specs.declared.end.End.{End}
 use Rattle.casper_app.specs.declared.end.End.TheVariants as end
 use Rattle.casper_app.specs.declared.outlet.Outlet.{Outlet}
 use Rattle.casper_app.specs.declared.replay.Replay.{Replay}
-use Rattle.casper_app.specs.Carrying.{summary_in}
-use Rattle.casper_app.specs.Comes.{TellsOf, TellsInShape, ComesFrom, ComesInShape}
-use Rattle.casper_app.specs.Lines.{events_in}
+use Rattle.casper_app.specs.declared.schedule.Asked.{Asked}
+use Rattle.casper_app.specs.Carrying.{StandsBy, summary_in}
+use Rattle.casper_app.specs.Chain.{IsOfSessions}
+use Rattle.casper_app.specs.Comes.{TellsOf, TellsButVersion, ComesFrom, ComesInShape}
+use Rattle.casper_app.specs.Lines.{asked_in}
+use Rattle.casper_app.specs.Play.{Standing, Plays, begun, by_machine, in_shape, summary_of}
 use Rattle.casper_app.specs.Outlet.{keeps, writes, kept_of, written_of}
-use Rattle.casper_app.specs.Session.{IsSession, state_behind, trail_behind, summary_of}
 use Rattle.casper_app.specs.Replay.{EndsFor, WritesAnswers, cause_of}
 use Rattle.casper_app.specs.Reading.{IsReading, stop_of}
 use Rattle.casper_app.specs.Ending.{EndsWith, IsDone, RunsReplay, RunsInMemory, RunsRefusal, IsLegalInMemory, start_of, RunsAudit, end_of_audit}
 use Rattle.casper_app.specs.Texts.{end_line, tells_number}
-use Rattle.casper_app.proofs.CarryLemmas.{session_carried, stands_carried, summary_carried, shape_carried, trail_carried}
-use Rattle.casper_app.proofs.SessionLemmas.{sessions_are_legal}
+use Rattle.casper_app.proofs.CarryLemmas.{shape_told, summary_told}
+use Rattle.casper_app.proofs.ChainLemmas.{plays_are_sessions}
+use Rattle.casper_app.proofs.SessionLemmas.{lines_name_clients, sessions_are_legal}
 
 -- a fact of what lines come to
 abbrev Coming : Type 1
-Coming = ℕ → End → List Event → List Answer → List Item → Type 0
+Coming = ℕ → End → List Asked → List Answer → List Item → Type 0
 
 module _ {V : Type 0} {tells : Bool} {faults : V → ℕ} {left left_after taken between : Option (List ℕ)} {old new : Replay V} {result : Result ℕ Cause}
     (reading : IsReading tells faults left left_after taken between old new result) where
   -- what a reading comes to over a vault that tells what it holds
-  comes_from : (start : State) → IsTrue tells → Represents start old.core → (meant : End)
-      → TellsOf meant (summary_of (length reading.lines) start (events_in reading.lines) reading.given)
-      → ComesFrom start (length reading.lines) meant (events_in reading.lines) reading.given new.core.hub.trail
-  comes_from start told stands meant tells_it =
-      let after = stands_carried tells faults (events_in reading.lines) reading.given old.core new.core start reading.carries told stands in
+  comes_from : (entries : ℕ) (start : State) → old.sessions.entries ≡ entries → IsTrue tells → StandsBy Represents (begun start) old.sessions → (meant : End)
+      → ((last : Standing) → StandsBy Represents last new.sessions → TellsOf meant (summary_of (length reading.lines) (asked_in reading.lines) reading.given last))
+      → ComesFrom entries start (length reading.lines) meant (asked_in reading.lines) reading.given new.sessions.core.hub.trail
+  comes_from entries start same told stands meant tells_it =
+      let run = reading.carries.plays told (begun start) stands in
       record {
-        session = session_carried tells faults (events_in reading.lines) reading.given old.core new.core start reading.carries told stands;
-        recorded = trail_carried (state_behind start (events_in reading.lines) reading.given) new.core after;
-        counted = tells_it;
+        last = run.0;
+        plays = subst (λ (n : ℕ). Plays by_machine n (begun start) (asked_in reading.lines) reading.given run.0) same run.1;
+        recorded = sym run.2.state.parts.shared.trail;
+        counted = tells_it run.0 run.2;
       }
 
   -- and over every vault
-  comes_in_shape : (start : State) → RepresentsButWords start old.core → (meant : End)
-      → TellsInShape meant (length reading.lines) (events_in reading.lines) reading.given new.core.hub.trail
-      → ComesInShape start (length reading.lines) meant (events_in reading.lines) reading.given new.core.hub.trail
-  comes_in_shape start shape meant tells_it =
-      let run : IsRunMade start (events_in reading.lines) reading.given new.core = reading.carries.shape start shape in
+  comes_in_shape : (entries : ℕ) (start : State) → old.sessions.entries ≡ entries → StandsBy RepresentsButWords (begun start) old.sessions → (meant : End)
+      → ((last : Standing) → StandsBy RepresentsButWords last new.sessions → TellsButVersion meant (summary_of (length reading.lines) (asked_in reading.lines) reading.given last))
+      → ComesInShape entries start (length reading.lines) meant (asked_in reading.lines) reading.given new.sessions.core.hub.trail
+  comes_in_shape entries start same stands meant tells_it =
+      let run = reading.carries.shape (begun start) stands in
       record {
-        each = reading.carries.each;
-        answers = run.answers;
-        recorded = sym run.shape.shared.trail;
-        counted = tells_it;
+        last = run.0;
+        plays = subst (λ (n : ℕ). Plays in_shape n (begun start) (asked_in reading.lines) reading.given run.0) same run.1;
+        recorded = sym run.2.state.shared.trail;
+        counted = tells_it run.0 run.2;
       }
 
   -- a reading and the line that tells how it ended make a replay
   made : (Comes : Coming) (none : old.answers.items ≡ []) (meant last : End) (taken_after : Option (List ℕ)) → cause_of meant ≡ stop_of result
-      → Comes (length reading.lines) meant (events_in reading.lines) reading.given new.core.hub.trail
+      → Comes (length reading.lines) meant (asked_in reading.lines) reading.given new.sessions.core.hub.trail
       → EndsWith meant last between taken_after
-      → RunsReplay Comes old.outlet (faults old.core.vault) (faults new.core.vault) left left_after taken taken_after new.answers.items new.core.hub.trail last
+      → RunsReplay Comes old.outlet (faults old.sessions.core.vault) (faults new.sessions.core.vault) left left_after taken taken_after new.answers.items new.sessions.core.hub.trail last
   made Comes none meant last taken_after same comes ending = record {
     given = reading.given;
     failures = reading.carries.failures;
@@ -105,48 +109,48 @@ module _ {V : Type 0} {tells : Bool} {faults : V → ℕ} {left left_after taken
   }
 
 -- the source was read to its end, and this is what the last line tells
-module _ {V : Type 0} {tells : Bool} {faults : V → ℕ} {left left_after taken between : Option (List ℕ)} {old new : Replay V} (count : ℕ) (start : State) (last : End) (taken_after : Option (List ℕ))
-    (reading : IsReading tells faults left left_after taken between old new (Ok count)) (calls : old.core.calls ≡ 0) (none : old.answers.items ≡ [])
-    (ending : EndsWith (end.Done (summary_in count new.core)) last between taken_after) where
+module _ {V : Type 0} {tells : Bool} {faults : V → ℕ} {left left_after taken between : Option (List ℕ)} {old new : Replay V} (count entries : ℕ) (start : State) (last : End) (taken_after : Option (List ℕ)) (same : old.sessions.entries ≡ entries)
+    (reading : IsReading tells faults left left_after taken between old new (Ok count)) (calls : old.sessions.core.calls ≡ 0) (none : old.answers.items ≡ [])
+    (ending : EndsWith (end.Done (summary_in count new.sessions)) last between taken_after) where
   meant : End
-  meant = end.Done (summary_in count new.core)
+  meant = end.Done (summary_in count new.sessions)
 
-  pub runs_done : IsTrue tells → Represents start old.core
-      → RunsReplay (ComesFrom start) old.outlet (faults old.core.vault) (faults new.core.vault) left left_after taken taken_after new.answers.items new.core.hub.trail last
+  pub runs_done : IsTrue tells → StandsBy Represents (begun start) old.sessions
+      → RunsReplay (ComesFrom entries start) old.outlet (faults old.sessions.core.vault) (faults new.sessions.core.vault) left left_after taken taken_after new.answers.items new.sessions.core.hub.trail last
   unfolding meant
   runs_done told stands =
-      let tells_it =
-      summary_carried tells faults reading.lines reading.given old.core new.core start count reading.carries told stands calls reading.few
-      ∙ ap (λ (n : ℕ). summary_of n start (events_in reading.lines) reading.given) (sym reading.counted) in
-      made reading (ComesFrom start) none meant last taken_after refl (comes_from reading start told stands meant tells_it) ending
+      made reading (ComesFrom entries start) none meant last taken_after refl
+      (comes_from reading entries start same told stands meant
+      (λ at. summary_told tells faults reading.lines reading.given old.sessions new.sessions at count reading.carries calls reading.few reading.counted)) ending
 
-  pub shape_done : RepresentsButWords start old.core
-      → RunsReplay (ComesInShape start) old.outlet (faults old.core.vault) (faults new.core.vault) left left_after taken taken_after new.answers.items new.core.hub.trail last
+  pub shape_done : StandsBy RepresentsButWords (begun start) old.sessions
+      → RunsReplay (ComesInShape entries start) old.outlet (faults old.sessions.core.vault) (faults new.sessions.core.vault) left left_after taken taken_after new.answers.items new.sessions.core.hub.trail last
   unfolding meant
-  shape_done shape =
-      let tells_it = shape_carried tells faults reading.lines reading.given old.core new.core count reading.carries calls reading.few (sym reading.counted) in
-      made reading (ComesInShape start) none meant last taken_after refl (comes_in_shape reading start shape meant tells_it) ending
+  shape_done stands =
+      made reading (ComesInShape entries start) none meant last taken_after refl
+      (comes_in_shape reading entries start same stands meant
+      (λ at. shape_told tells faults reading.lines reading.given old.sessions new.sessions at count reading.carries calls reading.few reading.counted)) ending
 
 -- the reading ended before
-module _ {V : Type 0} {tells : Bool} {faults : V → ℕ} {left left_after taken between : Option (List ℕ)} {old new : Replay V} (said : Cause) (start : State) (last : End) (taken_after : Option (List ℕ))
+module _ {V : Type 0} {tells : Bool} {faults : V → ℕ} {left left_after taken between : Option (List ℕ)} {old new : Replay V} (said : Cause) (entries : ℕ) (start : State) (last : End) (taken_after : Option (List ℕ)) (same : old.sessions.entries ≡ entries)
     (reading : IsReading tells faults left left_after taken between old new (Err said)) (none : old.answers.items ≡ [])
     (ending : EndsWith (end.Stopped said) last between taken_after) where
-  pub runs_stopped : IsTrue tells → Represents start old.core
-      → RunsReplay (ComesFrom start) old.outlet (faults old.core.vault) (faults new.core.vault) left left_after taken taken_after new.answers.items new.core.hub.trail last
+  pub runs_stopped : IsTrue tells → StandsBy Represents (begun start) old.sessions
+      → RunsReplay (ComesFrom entries start) old.outlet (faults old.sessions.core.vault) (faults new.sessions.core.vault) left left_after taken taken_after new.answers.items new.sessions.core.hub.trail last
   runs_stopped told stands =
-      made reading (ComesFrom start) none (end.Stopped said) last taken_after refl (comes_from reading start told stands (end.Stopped said) tt) ending
+      made reading (ComesFrom entries start) none (end.Stopped said) last taken_after refl (comes_from reading entries start same told stands (end.Stopped said) (λ at here. tt)) ending
 
-  pub shape_stopped : RepresentsButWords start old.core
-      → RunsReplay (ComesInShape start) old.outlet (faults old.core.vault) (faults new.core.vault) left left_after taken taken_after new.answers.items new.core.hub.trail last
-  shape_stopped shape =
-      made reading (ComesInShape start) none (end.Stopped said) last taken_after refl (comes_in_shape reading start shape (end.Stopped said) tt) ending
+  pub shape_stopped : StandsBy RepresentsButWords (begun start) old.sessions
+      → RunsReplay (ComesInShape entries start) old.outlet (faults old.sessions.core.vault) (faults new.sessions.core.vault) left left_after taken taken_after new.answers.items new.sessions.core.hub.trail last
+  shape_stopped stands =
+      made reading (ComesInShape entries start) none (end.Stopped said) last taken_after refl (comes_in_shape reading entries start same stands (end.Stopped said) (λ at here. tt)) ending
 
 no_answers_of : (test : Bool) → ◌≡◌ {A = List Answer} (cond test [] []) []
 no_answers_of true = refl
 no_answers_of false = refl
 
 -- nothing was read, and memory was short
-module _ (start : State) (outlet : Outlet) (faults : ℕ) (left taken taken_after : Option (List ℕ)) (answers : List Answer) (items : List Item) (last : End)
+module _ (entries : ℕ) (start : State) (outlet : Outlet) (faults : ℕ) (left taken taken_after : Option (List ℕ)) (answers : List Answer) (items : List Item) (last : End)
     (ending : EndsWith (end.Stopped cause.Memory) last taken taken_after) (no_answers : answers ≡ []) (same_items : items ≡ start.shared.trail) where
   unread : (Comes : Coming) → Comes 0 (end.Stopped cause.Memory) [] [] items
       → RunsReplay Comes outlet faults faults left left taken taken_after answers items last
@@ -176,17 +180,18 @@ module _ (start : State) (outlet : Outlet) (faults : ℕ) (left taken taken_afte
     };
   }
 
-  pub runs_unread : RunsReplay (ComesFrom start) outlet faults faults left left taken taken_after answers items last
-  runs_unread = unread (ComesFrom start) (record {
-    session = record { each = refl; outside_fits = refl; answers = refl };
+  pub runs_unread : RunsReplay (ComesFrom entries start) outlet faults faults left left taken taken_after answers items last
+  runs_unread = unread (ComesFrom entries start) (record {
+    last = begun start;
+    plays = refl;
     recorded = same_items;
     counted = tt;
   })
 
-  pub shape_unread : RunsReplay (ComesInShape start) outlet faults faults left left taken taken_after answers items last
-  shape_unread = unread (ComesInShape start) (record {
-    each = refl;
-    answers = refl;
+  pub shape_unread : RunsReplay (ComesInShape entries start) outlet faults faults left left taken taken_after answers items last
+  shape_unread = unread (ComesInShape entries start) (record {
+    last = begun start;
+    plays = refl;
     recorded = same_items;
     counted = tt;
   })
@@ -196,7 +201,7 @@ never_failed : (count : ℕ) → RoseBy count 0 0 → count ≡ 0
 never_failed count rose = omega (arith, rose)
 
 pub runs_in_memory : (opening : Opening) (outlet : Outlet) (left left_after taken taken_after : Option (List ℕ)) (answers : List Answer) (items : List Item) (last : End)
-    → RunsReplay (ComesFrom (start_of opening)) outlet 0 0 left left_after taken taken_after answers items last → RunsInMemory opening outlet left left_after taken taken_after answers items last
+    → RunsReplay (ComesFrom opening.entries (start_of opening)) outlet 0 0 left left_after taken taken_after answers items last → RunsInMemory opening outlet left left_after taken taken_after answers items last
 runs_in_memory opening outlet left left_after taken taken_after answers items last run = record {
   given = run.given;
   unfailing = never_failed (failures_in run.given) run.failures;
@@ -207,20 +212,25 @@ runs_in_memory opening outlet left left_after taken taken_after answers items la
 
 -- what was read and recorded is legal
 pub legal_in_memory : (opening : Opening) (outlet : Outlet) (faults faults_after : ℕ) (left left_after taken taken_after : Option (List ℕ)) (answers : List Answer) (items : List Item) (last : End)
-    → RunsReplay (ComesFrom (start_of opening)) outlet faults faults_after left left_after taken taken_after answers items last → IsLegalInMemory opening outlet left answers items
+    → RunsReplay (ComesFrom opening.entries (start_of opening)) outlet faults faults_after left left_after taken taken_after answers items last → IsLegalInMemory opening outlet left answers items
 legal_in_memory opening outlet faults faults_after left left_after taken taken_after answers items last run =
     let replay = run.replay in
-    let legal = sessions_are_legal (zero_vault opening.pages) opening.pages opening.entries opening.cache replay.lines run.given in
+    let last : Standing = replay.comes.last in
+    let limits : Limits = record { pages = opening.pages; entries = opening.entries; held = opening.cache } in
+    let all : IsOfSessions limits (zero_vault opening.pages) (asked_in replay.lines) run.given last =
+    plays_are_sessions limits (zero_vault opening.pages) (asked_in replay.lines) run.given last (lines_name_clients replay.lines) replay.comes.plays in
+    let legal = sessions_are_legal last.found opening.pages opening.entries opening.cache all.events all.said all.named in
     record {
       lines = replay.lines;
       rest = replay.rest;
       reads = replay.reads;
       given = run.given;
       answered = replay.answered;
-      session = replay.comes.session;
+      last = last;
+      plays = replay.comes.plays;
       recorded = replay.comes.recorded;
-      legal = subst (λ (i : List Item). IsLegal (start_of opening).base i) (sym replay.comes.recorded) legal.0;
-      whole = legal.1;
+      legal = subst (λ (i : List Item). IsLegal last.found.image i) (sym (replay.comes.recorded ∙ ap (λ (s : State). s.shared.trail) all.state)) legal.0;
+      whole = subst (λ (s : State). IsLegal last.found.image (whole_of s)) (sym all.state) legal.1;
     }
 
 -- the same, by what the calls of a replay gave

@@ -8,17 +8,20 @@ use Rattle.casper_model.specs.declared.event.Event.{Event}
 use Rattle.casper_model.specs.declared.event.Event.TheVariants as event
 use Rattle.casper_model.specs.Outside.{Outside, LoadFailed, SettleFailed, NothingFailed}
 use Rattle.casper_model.specs.Run.{Happening, state_after, answers_of, is_disk}
-use Rattle.casper_model.specs.Rights.{NamesClients, AllNameClients}
+use Rattle.casper_model.specs.Rights.{NamesClients}
 use Rattle.casper_model.proofs.RunHistory.{every_run_legal}
 use Rattle.casper_model.proofs.WholeRuns.{every_run_whole}
 use Rattle.casper_core.specs.Acting.{outside_written, outside_in}
 use Rattle.casper_core.specs.Stepping.{happenings_of, is_fault, failures_in}
+use Rattle.casper_app.specs.declared.schedule.Asked.{Asked}
+use Rattle.casper_app.specs.declared.schedule.Asked.TheVariants as asks
 use Rattle.casper_app.specs.declared.schedule.Parsed.TheVariants as parsed
-use Rattle.casper_app.specs.Schedule.{event_of, is_unbuilt, is_comment, refused_as, parsed_words, parsed_line}
-use Rattle.casper_app.specs.Grammar.{IsEvent}
-use Rattle.casper_app.specs.Lines.{event_of_parsed, event_of_line, events_in}
+use Rattle.casper_app.specs.Schedule.{asked_of, is_unbuilt, is_comment, refused_as, parsed_words, parsed_line}
+use Rattle.casper_app.specs.Chain.{AsksOfClients, AllAskOfClients}
+use Rattle.casper_app.specs.Grammar.{IsEvent, IsAskable}
+use Rattle.casper_app.specs.Lines.{asked_of_parsed, asked_of_line, asked_in}
 use Rattle.casper_app.specs.Machine.{unfailing, UnfailingSessions, LinesNameClients, SessionsAreLegal}
-use Rattle.casper_app.proofs.GrammarLemmas.{events_have_one_text}
+use Rattle.casper_app.proofs.GrammarLemmas.{lines_have_one_text}
 
 -- where an answer tells of no fault, nothing failed
 wrote_well : (said : Answer) → is_fault said ≡ false → outside_written said ≡ NothingFailed
@@ -54,8 +57,8 @@ unfailing_sessions start events given session none =
     let same : happenings_of events given ≡ unfailing events = none_failed events given session.each none in
     (session.answers ∙ ap (answers_of start) same, ap (state_after start) same)
 
--- what is known of an event, where there is one
-abbrev WhereAsked : (Event → Type 0) → Option Event → Type 0
+-- what is known of what was asked for, where there is something
+abbrev WhereAsked : (Asked → Type 0) → Option Asked → Type 0
 WhereAsked Known None = Unit {0}
 WhereAsked Known (Some asked) = Known asked
 
@@ -75,42 +78,45 @@ client_named event.Settle is = tt
 client_named (event.Vanish who) is = is
 client_named (event.Lose who) is = is
 
--- the event that a line asks for is one of a built line
-words_ask : (list : List (List ℕ)) → WhereAsked IsEvent (event_of_parsed (parsed_words list))
+of_clients : (asked : Asked) → IsAskable asked → AsksOfClients asked
+of_clients (asks.Event event) is = client_named event is
+of_clients asks.Reopen is = tt
+
+-- what a line asks for may be asked for by a built line
+words_ask : (list : List (List ℕ)) → WhereAsked IsAskable (asked_of_parsed (parsed_words list))
 words_ask [] = tt
-words_ask (first ∷ rest) = by_event (event_of (first ∷ rest)) (λ asked asks. (events_have_one_text (first ∷ rest) asked asks).0)
+words_ask (first ∷ rest) = by_asked (asked_of (first ∷ rest)) (λ asked is. (lines_have_one_text (first ∷ rest) asked is).0)
   where
-    by_test : (b : Bool) → WhereAsked IsEvent (event_of_parsed (cond b parsed.Unbuilt parsed.Bad))
+    by_test : (b : Bool) → WhereAsked IsAskable (asked_of_parsed (cond b parsed.Unbuilt parsed.Bad))
     by_test true = tt
     by_test false = tt
 
-    by_event : (found : Option Event) → ((asked : Event) → found ≡ Some asked → IsEvent asked) → WhereAsked IsEvent (event_of_parsed (option_map_or (λ asked. parsed.Event asked) found (refused_as first)))
-    by_event None is = by_test (is_unbuilt first)
-    by_event (Some asked) is = is asked refl
+    by_asked : (found : Option Asked) → ((asked : Asked) → found ≡ Some asked → IsAskable asked) → WhereAsked IsAskable (asked_of_parsed (option_map_or (λ one. parsed.Asked one) found (refused_as first)))
+    by_asked None is = by_test (is_unbuilt first)
+    by_asked (Some asked) is = is asked refl
 
-line_asks : (line : List ℕ) → WhereAsked IsEvent (event_of_line line)
+line_asks : (line : List ℕ) → WhereAsked IsAskable (asked_of_line line)
 line_asks line = by_tests (all_printable line) (is_comment line)
   where
-    by_tests : (printable comment : Bool) → WhereAsked IsEvent (event_of_parsed (cond printable (cond comment parsed.Skip (parsed_words (words line))) parsed.Bad))
+    by_tests : (printable comment : Bool) → WhereAsked IsAskable (asked_of_parsed (cond printable (cond comment parsed.Skip (parsed_words (words line))) parsed.Bad))
     by_tests true true = tt
     by_tests true false = words_ask (words line)
     by_tests false comment = tt
 
-pub named_by_line : (line : List ℕ) (asked : Event) → parsed_line line ≡ parsed.Event asked → IsEvent asked
-named_by_line line asked parses = subst (WhereAsked IsEvent) (ap event_of_parsed parses) (line_asks line)
+pub askable_by_line : (line : List ℕ) (asked : Asked) → parsed_line line ≡ parsed.Asked asked → IsAskable asked
+askable_by_line line asked parses = subst (WhereAsked IsAskable) (ap asked_of_parsed parses) (line_asks line)
 
--- the events that lines ask for name clients
+-- what lines ask for names clients
 pub lines_name_clients : LinesNameClients
-lines_name_clients lines [] = tt
-lines_name_clients [] (one ∷ given) = tt
-lines_name_clients (line ∷ lines) (one ∷ given) = by_event (event_of_line line) (line_asks line) (lines_name_clients lines)
+lines_name_clients [] = tt
+lines_name_clients (line ∷ lines) = by_asked (asked_of_line line) (line_asks line) (lines_name_clients lines)
   where
-    by_event : (found : Option Event) → WhereAsked IsEvent found → ((rest : List Answer) → AllNameClients (happenings_of (events_in lines) rest)) → AllNameClients (happenings_of (cons_option found (events_in lines)) (one ∷ given))
-    by_event None is following = following (one ∷ given)
-    by_event (Some asked) is following = (client_named asked is, following given)
+    by_asked : (found : Option Asked) → WhereAsked IsAskable found → AllAskOfClients (asked_in lines) → AllAskOfClients (cons_option found (asked_in lines))
+    by_asked None is following = following
+    by_asked (Some asked) is following = (of_clients asked is, following)
 
 pub sessions_are_legal : SessionsAreLegal
-sessions_are_legal vault pages limit capacity lines given = (
-  every_run_legal vault pages limit capacity (happenings_of (events_in lines) given) (lines_name_clients lines given),
-  every_run_whole vault pages limit capacity (happenings_of (events_in lines) given) (lines_name_clients lines given),
+sessions_are_legal vault pages limit capacity events given named = (
+  every_run_legal vault pages limit capacity (happenings_of events given) named,
+  every_run_whole vault pages limit capacity (happenings_of events given) named,
 )

@@ -18,16 +18,19 @@ use Rattle.casper_app.specs.declared.cause.Cause.{Cause}
 use Rattle.casper_app.specs.declared.cause.Cause.TheVariants as cause
 use Rattle.casper_app.specs.declared.outlet.Outlet.{Outlet}
 use Rattle.casper_app.specs.declared.replay.Replay.{Replay}
+use Rattle.casper_app.specs.declared.schedule.Asked.{Asked}
+use Rattle.casper_app.specs.declared.schedule.Asked.TheVariants as asks
 use Rattle.casper_app.specs.declared.schedule.Parsed.TheVariants as parsed
-use Rattle.casper_app.specs.Carrying.{MakesStep}
-use Rattle.casper_app.specs.Grammar.{IsEvent}
-use Rattle.casper_app.specs.Lines.{event_of_parsed, event_of_line, IsTakenAs, IsTaken}
-use Rattle.casper_app.specs.Outlet.{writes, kept_of, written_of}
+use Rattle.casper_app.specs.Carrying.{MakesStep, MakesNone, MayBeAsked}
+use Rattle.casper_app.specs.Grammar.{IsEvent, IsAskable}
+use Rattle.casper_app.specs.Lines.{asked_of_parsed, asked_of_line, IsTakenAs, IsTaken}
+use Rattle.casper_app.specs.Opening.{IsWhy}
+use Rattle.casper_app.specs.Outlet.{keeps, writes, kept_of, written_of}
 use Rattle.casper_app.specs.Schedule.{parsed_line}
-use Rattle.casper_app.specs.Taking.{CarriesEvent, CarriesLine, WritesAnswer, WritesForLine, TakesEvent, TakesInput}
+use Rattle.casper_app.specs.Taking.{CarriesAsked, CarriesLine, WritesAnswer, WritesForLine, TakesAsked, TakesInput}
 
 -- there is a turn for each event of a built line
-pub built : (asked : Event) → IsEvent asked → IsBuilt asked
+built : (asked : Event) → IsEvent asked → IsBuilt asked
 built (event.Join who) is = tt
 built (event.Read who page word) is = tt
 built (event.Write who page word value) is = tt
@@ -42,6 +45,10 @@ built event.Settle is = tt
 built (event.Vanish who) is = tt
 built (event.Lose who) is = tt
 
+pub may_be_asked : (asked : Asked) → IsAskable asked → MayBeAsked asked
+may_be_asked (asks.Event event) is = built event is
+may_be_asked asks.Reopen is = tt
+
 -- a vault in memory as it is made tells what the machine's does
 pub stands_at_start : (pages entries cache : ℕ) (vault : HeldPages) (core : CoreView HeldPages) → core.told ≡ record { image = held_image vault; version = vault.version; room = None; doubt = None }
     → core.size ≡ pages → held_image vault ≡ replicate pages (replicate 512 0) → vault.version ≡ 1
@@ -53,10 +60,10 @@ stands_at_start pages entries cache vault core told size image version stands =
     ∙ ap (λ (v : VaultState). start v pages entries cache)
     (told ∙ ap (vaults (held_image vault)) version ∙ ap (λ (i : List (List ℕ)). vaults i 1) image)) stands
 
--- what was done for an event is what was done for the line that asks for it
-pub input_of_event : {V : Type 0} (tells : Bool) (faults : V → ℕ) (number : ℕ) (line : List ℕ) (asked : Event) (old new : Replay V) (before after : Option (List ℕ)) (result : Result (Unit {0}) Cause)
-    → parsed_line line ≡ parsed.Event asked → TakesEvent tells faults asked old new before after result → TakesInput tells faults number line old new before after result
-input_of_event tells faults number line asked old new before after result parses takes = record {
+-- what was done for something is what was done for the line that asks for it
+pub input_of_asked : {V : Type 0} (tells : Bool) (faults : V → ℕ) (number : ℕ) (line : List ℕ) (asked : Asked) (old new : Replay V) (before after : Option (List ℕ)) (result : Result (Unit {0}) Cause)
+    → parsed_line line ≡ parsed.Asked asked → TakesAsked tells faults asked old new before after result → TakesInput tells faults number line old new before after result
+input_of_asked tells faults number line asked old new before after result parses takes = record {
   given = takes.given;
   carries = by_given takes.given takes.carries;
   outlet = takes.outlet;
@@ -64,20 +71,22 @@ input_of_event tells faults number line asked old new before after result parses
   writes = by_result result takes.given takes.writes;
 }
   where
-    asks : event_of_line line ≡ Some asked
-    asks = ap event_of_parsed parses
+    is : asked_of_line line ≡ Some asked
+    is = ap asked_of_parsed parses
 
     taken : IsTaken line
     taken = subst IsTakenAs (sym parses) tt
 
-    by_given : (given : Option Answer) → CarriesEvent tells faults asked given old.core new.core → CarriesLine tells faults line given old.core new.core
+    by_given : (given : Option Answer) → CarriesAsked tells faults asked given old.sessions new.sessions → CarriesLine tells faults line given old.sessions new.sessions
     by_given None none = none
-    by_given (Some one) step = (asked, asks, step)
+    by_given (Some one) step = (asked, is, step)
 
-    by_result : (r : Result (Unit {0}) Cause) (given : Option Answer) → WritesAnswer old.outlet given before after r → WritesForLine number line old.outlet given before after r
-    by_result (Ok done) given h = (taken, h.0 ∙ sym (ap is_some asks), h.1)
+    by_result : (r : Result (Unit {0}) Cause) (given : Option Answer) → WritesAnswer asked old.outlet given before after r → WritesForLine number line old.outlet given before after r
+    by_result (Ok done) given h = (taken, h.0 ∙ sym (ap is_some is), h.1)
     by_result (Err cause.Write) given h = h
-    by_result (Err cause.Memory) given h = (h.0, h.1, asked, asks)
+    by_result (Err cause.Disk) given h = (is ∙ ap Some h.0, h.1, h.2)
+    by_result (Err (cause.Refused refusal)) given h = (is ∙ ap Some h.0, h.1, h.2)
+    by_result (Err cause.Memory) given h = (h.0, h.1, asked, is)
     by_result (Err cause.Usage) given h = absurd h
     by_result (Err cause.Read) given h = absurd h
     by_result (Err (cause.BadLine n)) given h = absurd h
@@ -104,10 +113,38 @@ pub front_of : (before after : Option (List ℕ)) (text text' : List ℕ) → te
 front_of before after text text' same front = subst (λ (t : List ℕ). TakesFront before after t) same front
 
 -- memory was short for the text of an answer
-pub memory_short : {V : Type 0} (tells : Bool) (faults : V → ℕ) (asked : Event) (one : Answer) (old new : Replay V) (taken : Option (List ℕ)) (result : Result (Unit {0}) Cause)
-    → IsErrAnd result (λ made. made ≡ cause.Memory) → MakesStep tells faults asked one old.core new.core → new.outlet ≡ old.outlet
-    → new.answers.items ≡ old.answers.items ++ kept_of old.outlet (one ∷ []) → written_of old.outlet (one ∷ []) ≡ one ∷ [] → TakesEvent tells faults asked old new taken taken result
+pub memory_short : {V : Type 0} (tells : Bool) (faults : V → ℕ) (asked : Asked) (one : Answer) (old new : Replay V) (taken : Option (List ℕ)) (result : Result (Unit {0}) Cause)
+    → IsErrAnd result (λ made. made ≡ cause.Memory) → MakesStep tells faults asked one old.sessions new.sessions → new.outlet ≡ old.outlet
+    → new.answers.items ≡ old.answers.items ++ kept_of old.outlet (one ∷ []) → written_of old.outlet (one ∷ []) ≡ one ∷ [] → TakesAsked tells faults asked old new taken taken result
 memory_short tells faults asked one old new taken (Ok done) made step same kept due = absurd made
 memory_short tells faults asked one old new taken (Err said) made step same kept due =
-    subst (λ (c : Cause). TakesEvent tells faults asked old new taken taken (Err c)) (sym made)
+    subst (λ (c : Cause). TakesAsked tells faults asked old new taken taken (Err c)) (sym made)
     (record { given = Some one; carries = step; outlet = same; kept = kept; writes = (refl, due) })
+
+-- there was no answer, and nothing was written
+pub unanswered : {V : Type 0} (tells : Bool) (faults : V → ℕ) (asked : Asked) (why : Cause) (old new : Replay V) (taken : Option (List ℕ)) (result : Result (Unit {0}) Cause)
+    → IsErrAnd result (λ made. made ≡ why) → IsWhy asked why → MakesNone tells faults old.sessions new.sessions → new.outlet ≡ old.outlet → new.answers.items ≡ old.answers.items
+    → TakesAsked tells faults asked old new taken taken result
+unanswered tells faults asked why old new taken (Ok done) made is none same kept = absurd made
+unanswered tells faults asked why old new taken (Err said) made is none same kept = record {
+  given = None;
+  carries = none;
+  outlet = same;
+  kept = kept ∙ sym (ap (λ (more : List Answer). old.answers.items ++ more) (by_test (keeps old.outlet)) ∙ append-nil old.answers.items);
+  writes = by_cause said (subst (IsWhy asked) (sym made) is);
+}
+  where
+    by_test : (test : Bool) → ◌≡◌ {A = List Answer} (cond test [] []) []
+    by_test true = refl
+    by_test false = refl
+
+    by_cause : (said : Cause) → IsWhy asked said → WritesAnswer asked old.outlet None taken taken (Err said)
+    by_cause cause.Memory is = (refl, tt)
+    by_cause cause.Disk is = (is, refl, refl)
+    by_cause (cause.Refused refusal) is = (is, refl, refl)
+    by_cause cause.Usage is = absurd is
+    by_cause cause.Read is = absurd is
+    by_cause cause.Write is = absurd is
+    by_cause (cause.BadLine n) is = absurd is
+    by_cause (cause.Illegal at rule) is = absurd is
+    by_cause (cause.Unbuilt n) is = absurd is

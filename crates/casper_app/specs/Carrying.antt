@@ -1,43 +1,73 @@
-use Rattle.std.specs.Prelude.{◌≡◌, ℕ, ◌+◌, ◌-◌, ◌^◌, ◌≤◌, Bool, List, length, min, IsTrue}
+use Rattle.std.specs.Prelude.{◌≡◌, ℕ, ◌+◌, ◌-◌, ◌^◌, ◌≤◌, Bool, List, length, min, IsTrue, ⊤}
 use Rattle.casper_words.specs.Count.{FaultCountRose}
 use Rattle.casper_trail.specs.TrailView.{commit_count, rollback_count}
 use Rattle.casper_space.specs.declared.answer.Answer.{Answer}
 use Rattle.casper_report.specs.declared.summary.Summary.{Summary}
-use Rattle.casper_model.specs.declared.event.Event.{Event}
 use Rattle.casper_model.specs.State.{State}
 use Rattle.casper_core.specs.CoreView.{CoreView}
-use Rattle.casper_core.specs.Shaped.{StepsInShape, RunsInShape}
 use Rattle.casper_core.specs.Represents.{Represents}
-use Rattle.casper_core.specs.Stepping.{Steps, Runs, IsUnchanged, RoseBy, is_fault, completes, counted, completed_in, failures_in}
+use Rattle.casper_core.specs.Shaped.{RepresentsButWords}
+use Rattle.casper_core.specs.Stepping.{IsBuilt, RoseBy, is_fault, counted, failures_in}
+use Rattle.casper_app.specs.declared.schedule.Asked.{Asked}
+use Rattle.casper_app.specs.declared.schedule.Asked.TheVariants as asks
+use Rattle.casper_app.specs.declared.sessions.Sessions.{Sessions}
+use Rattle.casper_app.specs.Play.{Rules, Standing, Takes, Plays, added, by_machine, in_shape, calls_in, completes_call}
 
--- a core carried an event out, and answered it so. `tells` and `faults` are those of its vault
-pub record MakesStep {V : Type 0} (tells : Bool) (faults : V → ℕ) (asked : Event) (given : Answer) (before after : CoreView V) : Type 0 where
-  pub step : IsTrue tells → Steps asked given before after
-  pub shape : StepsInShape asked given before after
-  pub fault : IsTrue (is_fault given) → FaultCountRose (faults before.vault) (faults after.vault)
-  pub never_falls : faults before.vault ≤ faults after.vault
-  pub calls : after.calls ≡ counted (completes asked given) before.calls
+-- sessions stand so: their core for the state, in the sense that is given, and their counts for what those that ended came to
+pub record StandsBy {V : Type 0} (IsOf : State → CoreView V → Type 0) (standing : Standing) (sessions : Sessions V) : Type 0 where
+  pub state : IsOf standing.state sessions.core
+  pub past : sessions.past ≡ standing.past
 
--- a core carried nothing out: its state has not changed
-pub record MakesNone {V : Type 0} (tells : Bool) (faults : V → ℕ) (before after : CoreView V) : Type 0 where
-  pub stands : IsTrue tells → (state : State) → Represents state before → Represents state after
-  pub unchanged : IsUnchanged before after
-  pub never_falls : faults before.vault ≤ faults after.vault
+-- from wherever they stood, what was asked for was answered by some rules, and they stand where that leads
+abbrev pub TakesBy : {V : Type 0} → Rules → (State → CoreView V → Type 0) → Asked → Answer → Sessions V → Sessions V → Type 0
+TakesBy rules IsOf asked given before after =
+    (standing : Standing) → StandsBy IsOf standing before → (next : Standing) × Takes rules before.entries standing asked given next × StandsBy IsOf next after
 
--- a core carried these events out one after another, and answered each
-pub record Carries {V : Type 0} (tells : Bool) (faults : V → ℕ) (events : List Event) (given : List Answer) (first last : CoreView V) : Type 0 where
-  pub each : length given ≡ length events
-  pub runs : IsTrue tells → Runs events given first last
-  pub shape : RunsInShape events given first last
-  pub failures : RoseBy (failures_in given) (faults first.vault) (faults last.vault)
-  pub calls : last.calls ≡ min (first.calls + completed_in events given) (2 ^ 64 - 1)
+abbrev pub PlaysBy : {V : Type 0} → Rules → (State → CoreView V → Type 0) → List Asked → List Answer → Sessions V → Sessions V → Type 0
+PlaysBy rules IsOf asked given first last =
+    (standing : Standing) → StandsBy IsOf standing first → (next : Standing) × Plays rules first.entries standing asked given next × StandsBy IsOf next last
 
--- what a core tells after so many lines
-abbrev pub summary_in : {V : Type 0} → ℕ → CoreView V → Summary
-summary_in lines core = record {
+-- wherever they stood, they still stand there
+abbrev pub StaysBy : {V : Type 0} → (State → CoreView V → Type 0) → Sessions V → Sessions V → Type 0
+StaysBy IsOf before after = (standing : Standing) → StandsBy IsOf standing before → StandsBy IsOf standing after
+
+-- what was asked for was answered so. `tells` and `faults` are those of the vault
+pub record MakesStep {V : Type 0} (tells : Bool) (faults : V → ℕ) (asked : Asked) (given : Answer) (before after : Sessions V) : Type 0 where
+  pub step : IsTrue tells → TakesBy by_machine Represents asked given before after
+  pub shape : TakesBy in_shape RepresentsButWords asked given before after
+  pub fault : IsTrue (is_fault given) → FaultCountRose (faults before.core.vault) (faults after.core.vault)
+  pub never_falls : faults before.core.vault ≤ faults after.core.vault
+  pub calls : after.core.calls ≡ counted (completes_call asked given) before.core.calls
+  pub entries : after.entries ≡ before.entries
+
+-- nothing was answered, and nothing has changed
+pub record MakesNone {V : Type 0} (tells : Bool) (faults : V → ℕ) (before after : Sessions V) : Type 0 where
+  pub stands : IsTrue tells → StaysBy Represents before after
+  pub shape : StaysBy RepresentsButWords before after
+  pub never_falls : faults before.core.vault ≤ faults after.core.vault
+  pub calls : after.core.calls ≡ before.core.calls
+  pub entries : after.entries ≡ before.entries
+
+-- these things were asked for, one after another, and each was answered
+pub record Carries {V : Type 0} (tells : Bool) (faults : V → ℕ) (asked : List Asked) (given : List Answer) (first last : Sessions V) : Type 0 where
+  pub each : length given ≡ length asked
+  pub plays : IsTrue tells → PlaysBy by_machine Represents asked given first last
+  pub shape : PlaysBy in_shape RepresentsButWords asked given first last
+  pub failures : RoseBy (failures_in given) (faults first.core.vault) (faults last.core.vault)
+  pub calls : last.core.calls ≡ min (first.core.calls + calls_in asked given) (2 ^ 64 - 1)
+  pub entries : last.entries ≡ first.entries
+
+-- what sessions tell after so many lines
+abbrev pub summary_in : {V : Type 0} → ℕ → Sessions V → Summary
+summary_in lines sessions = record {
   lines = lines;
-  calls = core.calls;
-  commits = commit_count core.hub.trail;
-  rollbacks = rollback_count core.hub.trail;
-  version = core.told.version;
+  calls = sessions.core.calls;
+  commits = added sessions.past.commits (commit_count sessions.core.hub.trail);
+  rollbacks = added sessions.past.rollbacks (rollback_count sessions.core.hub.trail);
+  version = sessions.core.told.version;
 }
+
+-- what may be asked for as yet
+abbrev pub MayBeAsked : Asked → Type 0
+MayBeAsked (asks.Event event) = IsBuilt event
+MayBeAsked asks.Reopen = ⊤

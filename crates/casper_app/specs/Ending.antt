@@ -9,8 +9,6 @@ use Rattle.casper_audit.specs.Verdicts.{IsAudit}
 use Rattle.casper_io.specs.Reading.{ReadsLines}
 use Rattle.casper_trail.specs.declared.item.Item.{Item}
 use Rattle.casper_trail.specs.Legal.{IsLegal}
-use Rattle.casper_trail.specs.Value.{zero_pages}
-use Rattle.casper_model.specs.declared.event.Event.{Event}
 use Rattle.casper_model.specs.State.{State, zero_start}
 use Rattle.casper_model.specs.WholeHistory.{whole_of}
 use Rattle.casper_space.specs.declared.answer.Answer.{Answer}
@@ -22,10 +20,12 @@ use Rattle.casper_app.specs.declared.command.Opening.{Opening}
 use Rattle.casper_app.specs.declared.end.End.{End}
 use Rattle.casper_app.specs.declared.end.End.TheVariants as end
 use Rattle.casper_app.specs.declared.outlet.Outlet.{Outlet}
+use Rattle.casper_app.specs.declared.schedule.Asked.{Asked}
 use Rattle.casper_app.specs.Comes.{ComesFrom}
 use Rattle.casper_app.specs.Command.{command_of}
-use Rattle.casper_app.specs.Lines.{events_in}
-use Rattle.casper_app.specs.Session.{IsSession, state_behind, trail_behind}
+use Rattle.casper_app.specs.Lines.{asked_in}
+use Rattle.casper_app.specs.Opening.{IsNoRefusal}
+use Rattle.casper_app.specs.Play.{Standing, Plays, begun, by_machine}
 use Rattle.casper_app.specs.Outlet.{kept_of}
 use Rattle.casper_app.specs.Replay.{IsReplay, IsRefusal, IsSaid, WritesFor}
 use Rattle.casper_app.specs.Texts.{end_line}
@@ -52,12 +52,21 @@ IsDone (end.Stopped cause) = ⊥
 
 -- a replay whose lines come to something wrote this, and as many steps failed by the outside, at most, as the count of the vault's
 -- faults tells
-pub record RunsReplay (Comes : ℕ → End → List Event → List Answer → List Item → Type 0) (outlet : Outlet) (faults faults_after : ℕ) (left left_after taken taken_after : Option (List ℕ)) (answers : List Answer) (items : List Item) (last : End) : Type 0 where
+pub record RunsReplay (Comes : ℕ → End → List Asked → List Answer → List Item → Type 0) (outlet : Outlet) (faults faults_after : ℕ) (left left_after taken taken_after : Option (List ℕ)) (answers : List Answer) (items : List Item) (last : End) : Type 0 where
   pub given : List Answer
   pub failures : RoseBy (failures_in given) faults faults_after
   pub out : List ℕ
   pub taken_is : taken_after ≡ append_known taken out
   pub replay : IsReplay Comes outlet left left_after given answers items last out
+
+-- no store was refused
+abbrev pub IsUnrefused : End → Type 0
+IsUnrefused (end.Stopped cause) = IsNoRefusal cause
+IsUnrefused other = Unit {0}
+
+-- the store was there: it was not refused, and its disk did not fail
+abbrev pub HasItsStore : End → Type 0
+HasItsStore last = IsUnrefused last × (last ≢ end.Stopped cause.Disk)
 
 -- a session over a store in memory as its opening says begins here
 abbrev pub start_of : Opening → State
@@ -69,7 +78,7 @@ pub record RunsInMemory (opening : Opening) (outlet : Outlet) (left left_after t
   pub unfailing : failures_in given ≡ 0
   pub out : List ℕ
   pub taken_is : taken_after ≡ append_known taken out
-  pub replay : IsReplay (ComesFrom (start_of opening)) outlet left left_after given answers items last out
+  pub replay : IsReplay (ComesFrom opening.entries (start_of opening)) outlet left left_after given answers items last out
 
 -- the words were refused, and this was written
 pub record RunsRefusal (refused : Cause) (left left_after taken taken_after : Option (List ℕ)) (answers : List Answer) (items : List Item) (last : End) : Type 0 where
@@ -104,24 +113,26 @@ IsRun words left left_after taken taken_after answers items last = MatchResult (
     (λ command. RunsCommand command left left_after taken taken_after answers items last)
     (λ refused. RunsRefusal refused left left_after taken taken_after answers items last)
 
--- a replay over a store in memory ended in a session: the answers and the trail are those of the events that lines at the front of
--- the source ask for. The trail is legal over the zero pages, and so is the whole history: the trail, and then the calls that are pending
+-- a replay over a store in memory ended in a session: the answers, and the trail of that session, are those of what lines at the front
+-- of the source ask for. The trail is legal over the array with which the session began, and so is the whole history: the trail, and
+-- then the calls that are pending
 pub record IsLegalInMemory (opening : Opening) (outlet : Outlet) (left : Option (List ℕ)) (answers : List Answer) (items : List Item) : Type 0 where
   pub lines : List (List ℕ)
   pub rest : Option (List ℕ)
   pub reads : ReadsLines left lines rest
   pub given : List Answer
   pub answered : answers ≡ kept_of outlet given
-  pub session : IsSession (start_of opening) (events_in lines) given
-  pub recorded : items ≡ trail_behind (start_of opening) (events_in lines) given
-  pub legal : IsLegal (zero_pages opening.pages) items
-  pub whole : IsLegal (zero_pages opening.pages) (whole_of (state_behind (start_of opening) (events_in lines) given))
+  pub last : Standing
+  pub plays : Plays by_machine opening.entries (begun (start_of opening)) (asked_in lines) given last
+  pub recorded : items ≡ last.state.shared.trail
+  pub legal : IsLegal last.found.image items
+  pub whole : IsLegal last.found.image (whole_of last.state)
 
 -- what a command leaves is legal: a replay's answers and trail, and of an audit there is no trail
 abbrev pub IsLegalCommand : Command → Option (List ℕ) → List Answer → List Item → Type 0
 IsLegalCommand (command.Replay opening outlet) left answers items = IsLegalInMemory opening outlet left answers items
 IsLegalCommand command.Audit left answers items = items ≡ []
 
--- a replay is legal over the zero pages that the words ask for, and the trail is empty where the words are refused
+-- a replay is legal over the store that the words ask for, and the trail is empty where the words are refused
 abbrev pub IsLegalRun : List (List ℕ) → Option (List ℕ) → List Answer → List Item → Type 0
 IsLegalRun words left answers items = MatchResult (command_of words) (λ command. IsLegalCommand command left answers items) (λ refused. items ≡ [])

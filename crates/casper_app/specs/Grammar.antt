@@ -7,7 +7,9 @@ use Rattle.casper_words.specs.declared.page.Right.TheVariants as may
 use Rattle.casper_words.specs.declared.page.Want.{Want}
 use Rattle.casper_model.specs.declared.event.Event.{Event}
 use Rattle.casper_model.specs.declared.event.Event.TheVariants as event
-use Rattle.casper_app.specs.Schedule.{event_of}
+use Rattle.casper_app.specs.declared.schedule.Asked.{Asked}
+use Rattle.casper_app.specs.declared.schedule.Asked.TheVariants as asked
+use Rattle.casper_app.specs.Schedule.{event_of, asked_of}
 
 abbrev pub right_text : Right → List ℕ
 right_text may.Read = codes "r"
@@ -60,3 +62,21 @@ EventsAreReadBack = (asked : Event) → IsEvent asked → event_of (words_of_eve
 -- words that ask for an event are the words of its line, so that no others do
 abbrev pub EventsHaveOneText : Type 0
 EventsHaveOneText = (words : List (List ℕ)) (asked : Event) → event_of words ≡ Some asked → IsEvent asked × (words ≡ words_of_event asked)
+
+-- the words of the line that asks for something: of an event, or of a reopen
+abbrev pub words_of_asked : Asked → List (List ℕ)
+words_of_asked (asked.Event event) = words_of_event event
+words_of_asked asked.Reopen = codes "reopen" ∷ []
+
+-- what a built line may ask for
+abbrev pub IsAskable : Asked → Type 0
+IsAskable (asked.Event event) = IsEvent event
+IsAskable asked.Reopen = ⊤
+
+-- the words of a line ask for what they are the words of
+abbrev pub LinesAreReadBack : Type 0
+LinesAreReadBack = (one : Asked) → IsAskable one → asked_of (words_of_asked one) ≡ Some one
+
+-- words that ask for something are those of its line, so that no others do
+abbrev pub LinesHaveOneText : Type 0
+LinesHaveOneText = (words : List (List ℕ)) (one : Asked) → asked_of words ≡ Some one → IsAskable one × (words ≡ words_of_asked one)

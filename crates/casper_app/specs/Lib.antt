@@ -8,7 +8,9 @@ pub mod Grammar
 pub mod LineLaws
 pub mod Lines
 pub mod Machine
+pub mod Opening
 pub mod Outlet
+pub mod Play
 pub mod Reading
 pub mod Replay
 pub mod Schedule

@@ -16,7 +16,8 @@ use Rattle.casper_core.specs.Acting.{outside_in}
 use Rattle.casper_core.specs.Stepping.{happenings_of, failures_in}
 use Rattle.casper_laws.specs.HeldWordSteps.{is_turn_of}
 use Rattle.casper_laws.specs.OwnLists.{own_list_of, completed_calls, drops_pending, is_rolled_back}
-use Rattle.casper_app.specs.Lines.{events_in}
+use Rattle.casper_app.specs.Chain.{AllAskOfClients}
+use Rattle.casper_app.specs.Lines.{asked_in}
 use Rattle.casper_app.specs.Session.{IsSession, state_behind, trail_behind}
 
 -- events in whose steps nothing failed
@@ -29,17 +30,17 @@ UnfailingSessions =
     (start : State) (events : List Event) (given : List Answer) → IsSession start events given → failures_in given ≡ 0
     → (given ≡ answers_of start (unfailing events)) × (state_behind start events given ≡ state_after start (unfailing events))
 
--- the events that lines ask for name clients
+-- what lines ask for names clients
 abbrev pub LinesNameClients : Type 0
-LinesNameClients = (lines : List (List ℕ)) (given : List Answer) → AllNameClients (happenings_of (events_in lines) given)
+LinesNameClients = (lines : List (List ℕ)) → AllAskOfClients (asked_in lines)
 
--- over every vault the trail of every session of lines is legal, and so is the whole history: the trail, and then the calls that are
+-- over every vault the trail of every session of clients is legal, and so is the whole history: the trail, and then the calls that are
 -- pending
 abbrev pub SessionsAreLegal : Type 0
 SessionsAreLegal =
-    (vault : VaultState) (pages limit capacity : ℕ) (lines : List (List ℕ)) (given : List Answer)
-    → IsLegal vault.image (trail_behind (start vault pages limit capacity) (events_in lines) given)
-    × IsLegal vault.image (whole_of (state_behind (start vault pages limit capacity) (events_in lines) given))
+    (vault : VaultState) (pages limit capacity : ℕ) (events : List Event) (given : List Answer) → AllNameClients (happenings_of events given)
+    → IsLegal vault.image (trail_behind (start vault pages limit capacity) events given)
+    × IsLegal vault.image (whole_of (state_behind (start vault pages limit capacity) events given))
 
 -- the calls of a client that events so answered complete, in the order of the answers
 abbrev pub calls_answered : List Event → List Answer → ℕ → List Call
@@ -66,9 +67,9 @@ none_dropped (asked ∷ events) (given ∷ answers) client = not (may_drop asked
 -- answered that it was rolled back, or it vanishes
 abbrev pub SessionsKeepCalls : Type 0
 SessionsKeepCalls =
-    (vault : VaultState) (pages limit capacity : ℕ) (lines : List (List ℕ)) (given : List Answer) (who : ℕ)
-    → IsSession (start vault pages limit capacity) (events_in lines) given → none_dropped (events_in lines) given who ≡ true
-    → own_list_of (state_behind (start vault pages limit capacity) (events_in lines) given) who ≡ calls_answered (events_in lines) given who
+    (vault : VaultState) (pages limit capacity : ℕ) (events : List Event) (given : List Answer) (who : ℕ) → AllNameClients (happenings_of events given)
+    → IsSession (start vault pages limit capacity) events given → none_dropped events given who ≡ true
+    → own_list_of (state_behind (start vault pages limit capacity) events given) who ≡ calls_answered events given who
 
 -- the calls of a client as events so answered leave them: those that an answer completes come last, and where the client is told that
 -- it was rolled back, or vanishes, those that are recorded are left, and what was pending is dropped
@@ -84,7 +85,7 @@ calls_kept state (asked ∷ events) (given ∷ answers) client calls =
 -- dropped
 abbrev pub SessionsKeepCallsButDropped : Type 0
 SessionsKeepCallsButDropped =
-    (vault : VaultState) (pages limit capacity : ℕ) (lines : List (List ℕ)) (given : List Answer) (who : ℕ)
+    (vault : VaultState) (pages limit capacity : ℕ) (events : List Event) (given : List Answer) (who : ℕ) → AllNameClients (happenings_of events given)
     → let begun = start vault pages limit capacity in
-    IsSession begun (events_in lines) given
-    → own_list_of (state_behind begun (events_in lines) given) who ≡ calls_kept begun (events_in lines) given who []
+    IsSession begun events given
+    → own_list_of (state_behind begun events given) who ≡ calls_kept begun events given who []

@@ -6,7 +6,7 @@ use Rattle.casper_report.specs.Texts.{answer_lines}
 use Rattle.casper_app.specs.declared.cause.Cause.{Cause}
 use Rattle.casper_app.specs.declared.replay.Replay.{Replay}
 use Rattle.casper_app.specs.Carrying.{Carries}
-use Rattle.casper_app.specs.Lines.{events_in, AreTaken}
+use Rattle.casper_app.specs.Lines.{asked_in, AreTaken}
 use Rattle.casper_app.specs.Outlet.{kept_of, written_of}
 use Rattle.casper_app.specs.Replay.{EndsFor, WritesAnswers}
 
@@ -17,7 +17,7 @@ pub record Stands {V : Type 0} (tells : Bool) (faults : V → ℕ) (count : ℕ)
   pub reads : ReadsLines first lines left
   pub each : AreTaken lines
   pub given : List Answer
-  pub carries : Carries tells faults (events_in lines) given old.core new.core
+  pub carries : Carries tells faults (asked_in lines) given old.sessions new.sessions
   pub outlet : new.outlet ≡ old.outlet
   pub kept : new.answers.items ≡ old.answers.items ++ kept_of old.outlet given
   pub written : taken ≡ append_known taken_first (answer_lines (written_of old.outlet given))
@@ -39,7 +39,7 @@ pub record IsReading {V : Type 0} (tells : Bool) (faults : V → ℕ) (first lef
   pub given : List Answer
   pub told : List Answer
   pub ends : EndsFor (stop_of result) lines rest left (written_of old.outlet given) told
-  pub carries : Carries tells faults (events_in lines) given old.core new.core
+  pub carries : Carries tells faults (asked_in lines) given old.sessions new.sessions
   pub kept : new.answers.items ≡ old.answers.items ++ kept_of old.outlet given
   pub out : List ℕ
   pub taken_is : taken ≡ append_known taken_first out

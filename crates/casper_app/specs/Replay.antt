@@ -3,7 +3,6 @@ use Rattle.casper_io.specs.Lines.{TakesLine, TakesEnd, TakesTooLong, TakesPart}
 use Rattle.casper_io.specs.Reading.{most_lines, ReadsLines}
 use Rattle.casper_io.specs.Told.{WhereTold}
 use Rattle.casper_trail.specs.declared.item.Item.{Item}
-use Rattle.casper_model.specs.declared.event.Event.{Event}
 use Rattle.casper_space.specs.declared.answer.Answer.{Answer}
 use Rattle.casper_report.specs.Texts.{answer_line, answer_lines}
 use Rattle.casper_app.specs.declared.cause.Cause.{Cause}
@@ -11,9 +10,11 @@ use Rattle.casper_app.specs.declared.cause.Cause.TheVariants as cause
 use Rattle.casper_app.specs.declared.end.End.{End}
 use Rattle.casper_app.specs.declared.end.End.TheVariants as end
 use Rattle.casper_app.specs.declared.outlet.Outlet.{Outlet}
+use Rattle.casper_app.specs.declared.schedule.Asked.{Asked}
+use Rattle.casper_app.specs.declared.schedule.Asked.TheVariants as asks
 use Rattle.casper_app.specs.declared.schedule.Parsed.TheVariants as parsed
 use Rattle.casper_app.specs.Schedule.{parsed_line}
-use Rattle.casper_app.specs.Lines.{event_of_line, events_in, AreTaken}
+use Rattle.casper_app.specs.Lines.{asked_of_line, asked_in, AreTaken}
 use Rattle.casper_app.specs.Outlet.{kept_of, written_of}
 use Rattle.casper_app.specs.Texts.{end_line, tells_number}
 
@@ -26,13 +27,13 @@ TakesBadLine number before after = (line : List ℕ) × (WhereTold before after 
 abbrev pub TakesUnbuilt : ℕ → Option (List ℕ) → Option (List ℕ) → Type 0
 TakesUnbuilt number before after = (number ≤ most_lines) × (line : List ℕ) × WhereTold before after (TakesLine line) × (parsed_line line ≡ parsed.Unbuilt)
 
--- the last of these lines asks for an event
+-- the last of these lines asks for something
 pub record AsksLast (lines : List (List ℕ)) : Type 0 where
   pub front : List (List ℕ)
   pub line : List ℕ
   pub is_last : lines ≡ front ++ line ∷ []
-  pub asked : Event
-  pub asks : event_of_line line ≡ Some asked
+  pub asked : Asked
+  pub asks : asked_of_line line ≡ Some asked
 
 -- why an end came before its time
 abbrev pub cause_of : End → Option Cause
@@ -40,11 +41,16 @@ cause_of (end.Done summary) = None
 cause_of (end.Legal entries) = None
 cause_of (end.Stopped cause) = Some cause
 
--- a line stands next that asks for an event
+-- a line stands next that asks for something
 abbrev pub TakesAsking : Option (List ℕ) → Option (List ℕ) → Type 0
-TakesAsking before after = (line : List ℕ) × WhereTold before after (TakesLine line) × (asked : Event) × (event_of_line line ≡ Some asked)
+TakesAsking before after = (line : List ℕ) × WhereTold before after (TakesLine line) × (asked : Asked) × (asked_of_line line ≡ Some asked)
 
--- memory was short: before any line was read; or for the event of a line that stood next, or for its answer; or for the text of the
+-- a line stood next that asks for a reopen. It was taken and not answered, and nothing after it was taken
+abbrev pub IsUnopened : List (List ℕ) → Option (List ℕ) → Option (List ℕ) → List Answer → List Answer → Type 0
+IsUnopened lines before after answers told =
+    (length lines < most_lines) × ((line : List ℕ) × WhereTold before after (TakesLine line) × (asked_of_line line ≡ Some asks.Reopen)) × (answers ≡ told)
+
+-- memory was short: before any line was read; or for what a line that stood next asks for, or for its answer; or for the text of the
 -- answer to the last of these lines, which is the one that is not among those told. Nothing after that line was taken
 abbrev pub IsShort : List (List ℕ) → Option (List ℕ) → Option (List ℕ) → List Answer → List Answer → Type 0
 IsShort lines before after answers told =
@@ -60,6 +66,8 @@ EndsFor None lines before after answers told = WhereTold before after (TakesEnd 
 EndsFor (Some cause.Usage) lines before after answers told = ⊥
 EndsFor (Some cause.Read) lines before after answers told = ((part : List ℕ) × WhereTold before after (TakesPart part)) × (answers ≡ told)
 EndsFor (Some cause.Write) lines before after answers told = (before ≡ after) × AsksLast lines × (answers ≡ told)
+EndsFor (Some cause.Disk) lines before after answers told = IsUnopened lines before after answers told
+EndsFor (Some (cause.Refused refusal)) lines before after answers told = IsUnopened lines before after answers told
 EndsFor (Some cause.Memory) lines before after answers told = IsShort lines before after answers told
 EndsFor (Some (cause.BadLine number)) lines before after answers told = (number ≡ length lines + 1) × TakesBadLine number before after × (answers ≡ told)
 EndsFor (Some (cause.Illegal at rule)) lines before after answers told = ⊥
@@ -88,6 +96,8 @@ WritesAnswers None told out = out ≡ answer_lines told
 WritesAnswers (Some cause.Write) told out = WritesButTheLast told out
 WritesAnswers (Some cause.Usage) told out = out ≡ answer_lines told
 WritesAnswers (Some cause.Read) told out = out ≡ answer_lines told
+WritesAnswers (Some cause.Disk) told out = out ≡ answer_lines told
+WritesAnswers (Some (cause.Refused refusal)) told out = out ≡ answer_lines told
 WritesAnswers (Some cause.Memory) told out = out ≡ answer_lines told
 WritesAnswers (Some (cause.BadLine number)) told out = out ≡ answer_lines told
 WritesAnswers (Some (cause.Illegal at rule)) told out = out ≡ answer_lines told
@@ -97,9 +107,8 @@ WritesAnswers (Some (cause.Unbuilt number)) told out = out ≡ answer_lines told
 abbrev pub IsSaid : End → End → Type 0
 IsSaid meant said = (said ≡ meant) ⊎ ((said ≡ end.Stopped cause.Memory) × (tells_number meant ≡ true))
 
--- a replay whose lines come to something, from the bytes left before to those left after it, with the answers that the events of its
--- lines got
-pub record IsReplay (Comes : ℕ → End → List Event → List Answer → List Item → Type 0) (outlet : Outlet) (before after : Option (List ℕ)) (given answers : List Answer) (items : List Item) (last : End) (out : List ℕ) : Type 0 where
+-- a replay whose lines come to something, from the bytes left before to those left after it, with the answers that its lines got
+pub record IsReplay (Comes : ℕ → End → List Asked → List Answer → List Item → Type 0) (outlet : Outlet) (before after : Option (List ℕ)) (given answers : List Answer) (items : List Item) (last : End) (out : List ℕ) : Type 0 where
   -- the lines that were skipped or answered, and what was left after them
   pub lines : List (List ℕ)
   pub rest : Option (List ℕ)
@@ -110,8 +119,8 @@ pub record IsReplay (Comes : ℕ → End → List Event → List Answer → List
   pub meant : End
   pub told : List Answer
   pub ends : EndsFor (cause_of meant) lines rest after (written_of outlet given) told
-  -- what the events that the lines ask for come to, with their answers and the trail
-  pub comes : Comes (length lines) meant (events_in lines) given items
+  -- what the things that the lines ask for come to, with their answers and the trail
+  pub comes : Comes (length lines) meant (asked_in lines) given items
   -- the answers were kept, and written, each before the next line was read; and then how it ended
   pub answered : answers ≡ kept_of outlet given
   pub text : List ℕ

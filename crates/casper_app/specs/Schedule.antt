@@ -1,5 +1,5 @@
-use Rattle.std.specs.Prelude.{ℕ, ◌^◌, Bool, true, false, ◌&&◌, ◌||◌, ◌==◌, List, [], ◌∷◌, length, Option, Some, None, nat_le, nat_lt, if◌then◌else◌, codes, is_some, option_map, option_and_then}
-use Rattle.std.specs.List.{list_any, before_first, after_first}
+use Rattle.std.specs.Prelude.{ℕ, ◌^◌, Bool, true, false, ◌&&◌, ◌==◌, List, [], ◌∷◌, length, Option, Some, None, nat_le, nat_lt, if◌then◌else◌, codes, is_some, option_map, option_and_then}
+use Rattle.std.specs.List.{before_first, after_first}
 use Rattle.std.specs.Option.{option_map_or}
 use Rattle.std.specs.Str.{bytes_eq}
 use Rattle.casper_words.specs.declared.page.Right.{Right}
@@ -9,6 +9,8 @@ use Rattle.casper_text.specs.Line.{all_printable, words}
 use Rattle.casper_text.specs.Number.{number_of, number_below}
 use Rattle.casper_model.specs.declared.event.Event.{Event}
 use Rattle.casper_model.specs.declared.event.Event.TheVariants as event
+use Rattle.casper_app.specs.declared.schedule.Asked.{Asked}
+use Rattle.casper_app.specs.declared.schedule.Asked.TheVariants as asked
 use Rattle.casper_app.specs.declared.schedule.Parsed.{Parsed}
 use Rattle.casper_app.specs.declared.schedule.Parsed.TheVariants as parsed
 
@@ -142,30 +144,33 @@ abbrev pub event_of : List (List ℕ) → Option Event
 event_of [] = None
 event_of (verb ∷ rest) = event_of_verb verb rest
 
--- the first words of the lines that are not built yet, but for client numbers
-abbrev pub unbuilt_verbs : List (List ℕ)
-unbuilt_verbs = codes "reopen" ∷ []
+-- whether these are the words of a reopen: the verb alone
+abbrev pub is_reopen : List (List ℕ) → Bool
+is_reopen [] = false
+is_reopen (verb ∷ []) = bytes_eq verb (codes "reopen")
+is_reopen (verb ∷ next ∷ rest) = false
 
-abbrev pub is_unbuilt_verb : List ℕ → Bool
-is_unbuilt_verb word = list_any (bytes_eq word) unbuilt_verbs
+-- what the words of a line ask for
+abbrev pub asked_of : List (List ℕ) → Option Asked
+asked_of words = if is_reopen words then Some asked.Reopen else option_map (λ one. asked.Event one) (event_of words)
 
--- a line that begins so is not built yet
+-- a line that begins with a client's number is not built yet
 abbrev pub is_unbuilt : List ℕ → Bool
-is_unbuilt first = is_some (client_of first) || is_unbuilt_verb first
+is_unbuilt first = is_some (client_of first)
 
 -- a line that begins with `#`
 abbrev pub is_comment : List ℕ → Bool
 is_comment [] = false
 is_comment (byte ∷ bytes) = byte == 35
 
--- what words are that ask for no event
+-- what words are that ask for nothing
 abbrev pub refused_as : List ℕ → Parsed
 refused_as first = if is_unbuilt first then parsed.Unbuilt else parsed.Bad
 
 -- what the words of a line are
 abbrev pub parsed_words : List (List ℕ) → Parsed
 parsed_words [] = parsed.Skip
-parsed_words (first ∷ rest) = option_map_or (λ asked. parsed.Event asked) (event_of (first ∷ rest)) (refused_as first)
+parsed_words (first ∷ rest) = option_map_or (λ one. parsed.Asked one) (asked_of (first ∷ rest)) (refused_as first)
 
 -- what a line of at most 1,024 bytes is
 abbrev pub parsed_line : List ℕ → Parsed

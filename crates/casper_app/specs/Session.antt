@@ -1,12 +1,10 @@
-use Rattle.std.specs.Prelude.{◌≡◌, ℕ, List, IsTrue, length}
+use Rattle.std.specs.Prelude.{◌≡◌, List, IsTrue, length}
 use Rattle.casper_trail.specs.declared.item.Item.{Item}
-use Rattle.casper_trail.specs.TrailView.{commit_count, rollback_count}
 use Rattle.casper_space.specs.declared.answer.Answer.{Answer}
-use Rattle.casper_report.specs.declared.summary.Summary.{Summary}
 use Rattle.casper_model.specs.declared.event.Event.{Event}
 use Rattle.casper_model.specs.Run.{all_fit, answers_of, state_after}
 use Rattle.casper_model.specs.State.{State}
-use Rattle.casper_core.specs.Stepping.{happenings_of, completed_in}
+use Rattle.casper_core.specs.Stepping.{happenings_of}
 
 -- events, each of them answered: from this start the machine answers them so, where the outside did what the answers tell
 pub record IsSession (start : State) (events : List Event) (given : List Answer) : Type 0 where
@@ -20,13 +18,3 @@ state_behind start events given = state_after start (happenings_of events given)
 
 abbrev pub trail_behind : State → List Event → List Answer → List Item
 trail_behind start events given = (state_behind start events given).shared.trail
-
--- what the last line tells of events that were so answered, after so many lines
-abbrev pub summary_of : ℕ → State → List Event → List Answer → Summary
-summary_of lines start events given = record {
-  lines = lines;
-  calls = completed_in events given;
-  commits = commit_count (trail_behind start events given);
-  rollbacks = rollback_count (trail_behind start events given);
-  version = (state_behind start events given).vault.version;
-}

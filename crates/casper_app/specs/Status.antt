@@ -1,6 +1,6 @@
 use Rattle.std.specs.Prelude.{ℕ}
 use Rattle.casper_app.specs.declared.cause.Cause.{Cause}
-use Rattle.casper_app.specs.declared.cause.Cause.TheVariants.{Usage, Read, Write, Memory, BadLine, Illegal, Unbuilt}
+use Rattle.casper_app.specs.declared.cause.Cause.TheVariants.{Usage, Read, Write, Disk, Refused, Memory, BadLine, Illegal, Unbuilt}
 use Rattle.casper_app.specs.declared.end.End.{End}
 use Rattle.casper_app.specs.declared.end.End.TheVariants.{Done, Legal, Stopped}
 
@@ -9,6 +9,8 @@ abbrev pub status_of : Cause → ℕ
 status_of Usage = 2
 status_of Read = 3
 status_of Write = 4
+status_of Disk = 5
+status_of (Refused refusal) = 6
 status_of Memory = 7
 status_of (BadLine line) = 8
 status_of (Illegal at rule) = 9

@@ -3,62 +3,72 @@ use Rattle.std.specs.Io.KnownBytes.{append_known}
 use Rattle.casper_io.specs.Lines.{TakesTooLong, TakesPart}
 use Rattle.casper_io.specs.Told.{WhereTold, TakesFront}
 use Rattle.casper_space.specs.declared.answer.Answer.{Answer}
-use Rattle.casper_model.specs.declared.event.Event.{Event}
-use Rattle.casper_core.specs.CoreView.{CoreView}
 use Rattle.casper_report.specs.Texts.{answer_line, answer_lines}
 use Rattle.casper_app.specs.declared.cause.Cause.{Cause}
 use Rattle.casper_app.specs.declared.cause.Cause.TheVariants as cause
 use Rattle.casper_app.specs.declared.outlet.Outlet.{Outlet}
 use Rattle.casper_app.specs.declared.replay.Replay.{Replay}
+use Rattle.casper_app.specs.declared.schedule.Asked.{Asked}
+use Rattle.casper_app.specs.declared.schedule.Asked.TheVariants as asks
 use Rattle.casper_app.specs.declared.schedule.Parsed.TheVariants as parsed
+use Rattle.casper_app.specs.declared.sessions.Sessions.{Sessions}
 use Rattle.casper_app.specs.Schedule.{parsed_line}
 use Rattle.casper_app.specs.Carrying.{MakesStep, MakesNone}
-use Rattle.casper_app.specs.Lines.{event_of_line, IsTaken}
+use Rattle.casper_app.specs.Lines.{asked_of_line, IsTaken}
 use Rattle.casper_app.specs.Outlet.{kept_of, written_of}
 
--- what an event did to a core, where it was answered, and where it was not
-abbrev pub CarriesEvent : {V : Type 0} → Bool → (V → ℕ) → Event → Option Answer → CoreView V → CoreView V → Type 0
-CarriesEvent tells faults asked None before after = MakesNone tells faults before after
-CarriesEvent tells faults asked (Some given) before after = MakesStep tells faults asked given before after
+-- what was done for what was asked, where it was answered, and where it was not
+abbrev pub CarriesAsked : {V : Type 0} → Bool → (V → ℕ) → Asked → Option Answer → Sessions V → Sessions V → Type 0
+CarriesAsked tells faults asked None before after = MakesNone tells faults before after
+CarriesAsked tells faults asked (Some given) before after = MakesStep tells faults asked given before after
 
--- what a line did to a core: the event that it asks for was answered, or nothing was
-abbrev pub CarriesLine : {V : Type 0} → Bool → (V → ℕ) → List ℕ → Option Answer → CoreView V → CoreView V → Type 0
+-- what a line did: what it asks for was answered, or nothing was
+abbrev pub CarriesLine : {V : Type 0} → Bool → (V → ℕ) → List ℕ → Option Answer → Sessions V → Sessions V → Type 0
 CarriesLine tells faults line None before after = MakesNone tells faults before after
-CarriesLine tells faults line (Some given) before after = (asked : Event) × (event_of_line line ≡ Some asked) × MakesStep tells faults asked given before after
+CarriesLine tells faults line (Some given) before after = (asked : Asked) × (asked_of_line line ≡ Some asked) × MakesStep tells faults asked given before after
 
 -- an answer, where there is one, is to be written
 abbrev pub IsDue : Outlet → Option Answer → Type 0
 IsDue outlet None = Unit {0}
 IsDue outlet (Some one) = written_of outlet (one ∷ []) ≡ one ∷ []
 
--- what was written of the answer to an event: all of it; a front of it, where the sink failed; or nothing, where memory was short
-abbrev pub WritesAnswer : Outlet → Option Answer → Option (List ℕ) → Option (List ℕ) → Result (Unit {0}) Cause → Type 0
-WritesAnswer outlet given before after (Ok done) = IsSome given × (after ≡ append_known before (answer_lines (written_of outlet (option_to_list given))))
-WritesAnswer outlet given before after (Err cause.Write) = (one : Answer) × (given ≡ Some one) × (written_of outlet (one ∷ []) ≡ one ∷ []) × TakesFront before after (answer_line one)
-WritesAnswer outlet given before after (Err cause.Memory) = (after ≡ before) × IsDue outlet given
-WritesAnswer outlet given before after (Err cause.Usage) = ⊥
-WritesAnswer outlet given before after (Err cause.Read) = ⊥
-WritesAnswer outlet given before after (Err (cause.BadLine n)) = ⊥
-WritesAnswer outlet given before after (Err (cause.Illegal at rule)) = ⊥
-WritesAnswer outlet given before after (Err (cause.Unbuilt n)) = ⊥
+-- a reopen was not answered, and nothing was written
+abbrev pub IsUnopened : Asked → Option Answer → Option (List ℕ) → Option (List ℕ) → Type 0
+IsUnopened asked given before after = (asked ≡ asks.Reopen) × (given ≡ None) × (after ≡ before)
 
--- an event was answered, or for want of memory it was not; the answer was kept and written, as the outlet says
-pub record TakesEvent {V : Type 0} (tells : Bool) (faults : V → ℕ) (asked : Event) (old new : Replay V) (before after : Option (List ℕ)) (result : Result (Unit {0}) Cause) : Type 0 where
+-- what was written of the answer: all of it; a front of it, where the sink failed; or nothing, where memory was short, or where the
+-- store was not opened again
+abbrev pub WritesAnswer : Asked → Outlet → Option Answer → Option (List ℕ) → Option (List ℕ) → Result (Unit {0}) Cause → Type 0
+WritesAnswer asked outlet given before after (Ok done) = IsSome given × (after ≡ append_known before (answer_lines (written_of outlet (option_to_list given))))
+WritesAnswer asked outlet given before after (Err cause.Write) = (one : Answer) × (given ≡ Some one) × (written_of outlet (one ∷ []) ≡ one ∷ []) × TakesFront before after (answer_line one)
+WritesAnswer asked outlet given before after (Err cause.Disk) = IsUnopened asked given before after
+WritesAnswer asked outlet given before after (Err (cause.Refused refusal)) = IsUnopened asked given before after
+WritesAnswer asked outlet given before after (Err cause.Memory) = (after ≡ before) × IsDue outlet given
+WritesAnswer asked outlet given before after (Err cause.Usage) = ⊥
+WritesAnswer asked outlet given before after (Err cause.Read) = ⊥
+WritesAnswer asked outlet given before after (Err (cause.BadLine n)) = ⊥
+WritesAnswer asked outlet given before after (Err (cause.Illegal at rule)) = ⊥
+WritesAnswer asked outlet given before after (Err (cause.Unbuilt n)) = ⊥
+
+-- what was asked for was answered, or it was not; the answer was kept and written, as the outlet says
+pub record TakesAsked {V : Type 0} (tells : Bool) (faults : V → ℕ) (asked : Asked) (old new : Replay V) (before after : Option (List ℕ)) (result : Result (Unit {0}) Cause) : Type 0 where
   pub given : Option Answer
-  pub carries : CarriesEvent tells faults asked given old.core new.core
+  pub carries : CarriesAsked tells faults asked given old.sessions new.sessions
   pub outlet : new.outlet ≡ old.outlet
   pub kept : new.answers.items ≡ old.answers.items ++ kept_of old.outlet (option_to_list given)
-  pub writes : WritesAnswer old.outlet given before after result
+  pub writes : WritesAnswer asked old.outlet given before after result
 
 -- what was written of the answer to a line, if it has one. A line that is refused has none. Memory is short only for a line that asks
--- for an event
+-- for something, and only a reopen meets a disk that failed or a store that is refused
 abbrev pub WritesForLine : ℕ → List ℕ → Outlet → Option Answer → Option (List ℕ) → Option (List ℕ) → Result (Unit {0}) Cause → Type 0
 WritesForLine number line outlet given before after (Ok done) =
-    IsTaken line × (is_some given ≡ is_some (event_of_line line)) × (after ≡ append_known before (answer_lines (written_of outlet (option_to_list given))))
+    IsTaken line × (is_some given ≡ is_some (asked_of_line line)) × (after ≡ append_known before (answer_lines (written_of outlet (option_to_list given))))
 WritesForLine number line outlet given before after (Err cause.Write) =
     (one : Answer) × (given ≡ Some one) × (written_of outlet (one ∷ []) ≡ one ∷ []) × TakesFront before after (answer_line one)
 WritesForLine number line outlet given before after (Err cause.Memory) =
-    (after ≡ before) × IsDue outlet given × (asked : Event) × (event_of_line line ≡ Some asked)
+    (after ≡ before) × IsDue outlet given × (asked : Asked) × (asked_of_line line ≡ Some asked)
+WritesForLine number line outlet given before after (Err cause.Disk) = (asked_of_line line ≡ Some asks.Reopen) × (given ≡ None) × (after ≡ before)
+WritesForLine number line outlet given before after (Err (cause.Refused refusal)) = (asked_of_line line ≡ Some asks.Reopen) × (given ≡ None) × (after ≡ before)
 WritesForLine number line outlet given before after (Err cause.Usage) = ⊥
 WritesForLine number line outlet given before after (Err cause.Read) = ⊥
 WritesForLine number line outlet given before after (Err (cause.BadLine n)) = (n ≡ number) × (parsed_line line ≡ parsed.Bad) × (given ≡ None) × (after ≡ before)
@@ -68,7 +78,7 @@ WritesForLine number line outlet given before after (Err (cause.Unbuilt n)) = (n
 -- a line was answered, skipped or refused
 pub record TakesInput {V : Type 0} (tells : Bool) (faults : V → ℕ) (number : ℕ) (line : List ℕ) (old new : Replay V) (before after : Option (List ℕ)) (result : Result (Unit {0}) Cause) : Type 0 where
   pub given : Option Answer
-  pub carries : CarriesLine tells faults line given old.core new.core
+  pub carries : CarriesLine tells faults line given old.sessions new.sessions
   pub outlet : new.outlet ≡ old.outlet
   pub kept : new.answers.items ≡ old.answers.items ++ kept_of old.outlet (option_to_list given)
   pub writes : WritesForLine number line old.outlet given before after result
@@ -79,6 +89,8 @@ NoLine cause.Read number before after = (part : List ℕ) × WhereTold before af
 NoLine (cause.BadLine n) number before after = (n ≡ number) × (line : List ℕ) × WhereTold before after (TakesTooLong line)
 NoLine cause.Usage number before after = ⊥
 NoLine cause.Write number before after = ⊥
+NoLine cause.Disk number before after = ⊥
+NoLine (cause.Refused refusal) number before after = ⊥
 NoLine cause.Memory number before after = ⊥
 NoLine (cause.Illegal at rule) number before after = ⊥
 NoLine (cause.Unbuilt n) number before after = ⊥

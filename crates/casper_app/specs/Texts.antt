@@ -1,5 +1,6 @@
 use Rattle.std.specs.Prelude.{ℕ, Bool, true, false, List, [], ◌∷◌, ◌++◌, codes}
 use Rattle.std.specs.Fmt.{decimal}
+use Rattle.casper_report.specs.Refusals.{counts, refusal_line}
 use Rattle.casper_report.specs.Summary.{summary_line}
 use Rattle.casper_report.specs.Texts.{as_line, joined, word_line}
 use Rattle.casper_audit.specs.declared.verdict.AuditRule.{AuditRule}
@@ -20,6 +21,8 @@ abbrev pub cause_line : Cause → List ℕ
 cause_line cause.Usage = as_line (codes "usage")
 cause_line cause.Read = as_line (codes "read fault")
 cause_line cause.Write = []
+cause_line cause.Disk = as_line (codes "disk fault")
+cause_line (cause.Refused refusal) = refusal_line refusal
 cause_line cause.Memory = as_line (codes "no memory")
 cause_line (cause.BadLine n) = as_line (codes "bad line " ++ decimal n)
 cause_line (cause.Illegal at which) = joined (codes "bad " ∷ decimal at ∷ codes " " ∷ rule_word which ∷ codes "\n" ∷ [])
@@ -38,6 +41,8 @@ tells_number (end.Legal entries) = true
 tells_number (end.Stopped cause.Usage) = false
 tells_number (end.Stopped cause.Read) = false
 tells_number (end.Stopped cause.Write) = false
+tells_number (end.Stopped cause.Disk) = false
+tells_number (end.Stopped (cause.Refused refusal)) = counts refusal
 tells_number (end.Stopped cause.Memory) = false
 tells_number (end.Stopped (cause.BadLine n)) = true
 tells_number (end.Stopped (cause.Illegal at which)) = true

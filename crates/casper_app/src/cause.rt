@@ -1,6 +1,8 @@
 ghost use Rattle.std.specs.Prelude.{◌≡◌};
 
 use casper_audit::AuditRule;
+use casper_report::Refusal;
+use casper_root::OpenFault;
 use casper_words::Memory;
 
 /// Why a call of `run` ended before it was done.
@@ -12,6 +14,10 @@ pub enum Cause {
     Read,
     /// The sink failed.
     Write,
+    /// The disk failed at an opening.
+    Disk,
+    /// The store was refused.
+    Refused(Refusal),
     /// Memory was short.
     Memory,
     /// The line of this number, from 1, is of no known form.
@@ -33,6 +39,8 @@ impl Cause {
             Cause::Usage => 2,
             Cause::Read => 3,
             Cause::Write => 4,
+            Cause::Disk => 5,
+            Cause::Refused(_) => 6,
             Cause::Memory => 7,
             Cause::BadLine(_) => 8,
             Cause::Illegal { .. } => 9,
@@ -49,5 +57,28 @@ impl From<Memory> for Cause {
 
     fn from(_memory: Memory) -> Cause {
         Cause::Memory
+    }
+}
+
+impl From<OpenFault> for Cause {
+    ghost use Rattle.std.specs.Prelude.{◌≡◌};
+    ghost use Rattle.casper_app.specs.Opening.{cause_of_opening};
+
+    ghost from_gives = { λ fault made. made ≡ cause_of_opening fault };
+
+    fn from(fault: OpenFault) -> Cause {
+        match fault {
+            OpenFault::Memory => Cause::Memory,
+            OpenFault::Disk => Cause::Disk,
+            OpenFault::NotAStore => Cause::Refused(Refusal::NotAStore),
+            OpenFault::Version(version) => Cause::Refused(Refusal::Version(version)),
+            OpenFault::BadSize { pages, frames } => {
+                Cause::Refused(Refusal::BadSize { pages, frames })
+            }
+            OpenFault::Short { need, have } => Cause::Refused(Refusal::Short { need, have }),
+            OpenFault::NoRoot => Cause::Refused(Refusal::NoRoot),
+            OpenFault::BadBody { seq, count } => Cause::Refused(Refusal::BadBody { seq, count }),
+            OpenFault::BadMap { page, frame } => Cause::Refused(Refusal::BadMap { page, frame }),
+        }
     }
 }

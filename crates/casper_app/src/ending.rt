@@ -6,7 +6,7 @@ ghost use Rattle.casper_app.specs.Ending.{EndsWith, WritesLast};
 use crate::{Cause, End};
 use casper_audit::AuditRule;
 use casper_io::{Sink, put_all};
-use casper_report::summary_text;
+use casper_report::{constant_refusal, refusal_text, summary_text};
 use casper_words::Memory;
 use std::alloc::Global;
 
@@ -46,6 +46,8 @@ fn constant_line(said: &End) -> Option<&'static [u8]>
         End::Stopped(Cause::Usage) => b"usage\n",
         End::Stopped(Cause::Read) => b"read fault\n",
         End::Stopped(Cause::Write) => b"",
+        End::Stopped(Cause::Disk) => b"disk fault\n",
+        End::Stopped(Cause::Refused(refusal)) => return constant_refusal(refusal),
         End::Stopped(Cause::Memory) => b"no memory\n",
         End::Done(_) | End::Legal(_) => return None,
         End::Stopped(Cause::BadLine(_) | Cause::Illegal { .. } | Cause::Unbuilt(_)) => return None,
@@ -71,7 +73,9 @@ fn cause_text(alloc: Global, cause: &Cause) -> Result<Vec<u8>, Memory>
     ensures { IfOk result (λ text. text.items ≡ cause_line cause.now) }
 {
     let text = match cause {
-        Cause::Usage | Cause::Read | Cause::Write | Cause::Memory => unreachable!(),
+        Cause::Usage | Cause::Read | Cause::Write => unreachable!(),
+        Cause::Disk | Cause::Memory => unreachable!(),
+        Cause::Refused(refusal) => return refusal_text(alloc, refusal),
         Cause::BadLine(line) => format!(in alloc; "bad line {line}\n")?,
         Cause::Illegal { at, rule } => format!(in alloc; "bad {at} {}\n", rule_text(*rule))?,
         Cause::Unbuilt(line) => format!(in alloc; "unbuilt {line}\n")?,

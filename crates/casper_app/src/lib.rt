@@ -8,9 +8,11 @@ mod ending;
 mod laws;
 mod lines;
 mod outlet;
+mod past;
 mod replay;
 mod room;
 mod schedule;
+mod sessions;
 mod taking;
 mod top;
 

@@ -1,5 +1,6 @@
-ghost use Rattle.std.specs.Prelude.{◌≡◌, ◌⊎◌, ◌+◌, ◌<◌, ◌≤◌, false, Err};
+ghost use Rattle.std.specs.Prelude.{◌≡◌, ◌⊎◌, ◌+◌, ◌<◌, ◌≤◌, false, Err, IfErr, IsTrue};
 ghost use Rattle.casper_words.specs.Count.{FaultCountRose};
+ghost use Rattle.casper_app.specs.Opening.{IsNoRefusal};
 ghost use Rattle.casper_app.specs.Reading.{IsReading};
 
 use crate::Cause;
@@ -8,17 +9,19 @@ use crate::room::Room;
 use crate::taking::read_line;
 use casper_disk::Vault;
 use casper_io::{MOST_LINES, Sink, Source};
+use casper_reopen::Reopen;
 use casper_trail::Mark;
 
 /// Reads lines and answers each before it reads the next, up to the end of the source, where the answer is how many lines it had, or
 /// to the first that is refused.
-pub(crate) fn take_lines<V: Vault, S: Source, K: Sink>(
+pub(crate) fn take_lines<V: Vault + Reopen, S: Source, K: Sink>(
     replay: &mut Replay<V>,
     room: &mut Room,
     source: &mut S,
     sink: &mut K,
 ) -> Result<u32, Cause>
-    requires calls { replay.old.core.calls ≡ 0 }
+    requires calls { replay.old.sessions.core.calls ≡ 0 }
+    requires limit { replay.old.sessions.entries ≤ 4194304 }
     requires source { S.is_broken source.old ≡ false }
     requires sink { K.is_broken sink.old ≡ false }
     ensures reading { IsReading V.tells V.faults (S.left source.old) (S.left source.new)
@@ -28,6 +31,9 @@ pub(crate) fn take_lines<V: Vault, S: Source, K: Sink>(
         → FaultCountRose (S.faults source.old) (S.faults source.new) }
     ensures write_fault { result ≡ Err Cause.Write
         → FaultCountRose (K.faults sink.old) (K.faults sink.new) }
+    ensures unrefused { IsTrue V.tells → IfErr result IsNoRefusal }
+    ensures disk { result ≡ Err Cause.Disk → FaultCountRose
+        (V.faults replay.old.sessions.core.vault) (V.faults replay.new.sessions.core.vault) }
     ensures source_stands { (result ≡ Err Cause.Read)
         ⊎ (S.faults source.new ≡ S.faults source.old) }
     ensures sink_stands { (result ≡ Err Cause.Write) ⊎ (K.faults sink.new ≡ K.faults sink.old) }

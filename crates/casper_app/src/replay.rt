@@ -1,65 +1,72 @@
-ghost use Rattle.std.specs.Prelude.{◌≡◌, ◌∷◌, ◌++◌, [], ◌+◌, ◌<◌, ◌≤◌, IfOk, OnErr, OnOk, IsTrue};
-ghost use Rattle.casper_core.specs.Stepping.{IsBuilt};
-ghost use Rattle.casper_app.specs.Carrying.{MakesStep, MakesNone, summary_in};
+ghost use Rattle.std.specs.Prelude.{◌≡◌, ◌∷◌, ◌++◌, [], ◌+◌, ◌<◌, ◌≤◌, Err, IfOk, IfErr, OnErr, OnOk, IsTrue};
+ghost use Rattle.casper_words.specs.Count.{FaultCountRose};
+ghost use Rattle.casper_app.specs.Carrying.{MakesStep, MakesNone, MayBeAsked};
+ghost use Rattle.casper_app.specs.Opening.{IsNoRefusal, IsWhy};
 ghost use Rattle.casper_app.specs.Outlet.{keeps, kept_of};
 
-use crate::Outlet;
-use casper_core::{Core, StepFault};
+use crate::schedule::Asked;
+use crate::sessions::Sessions;
+use crate::{Cause, Outlet};
 use casper_disk::Vault;
-use casper_model::Event;
-use casper_report::Summary;
+use casper_reopen::Reopen;
 use casper_space::{Answer, Answers};
 use casper_trail::{Mark, Trail};
 use casper_words::Memory;
 use std::alloc::Global;
 
-/// A replay: the core that carries events out, what becomes of its answers, and those that are kept.
+/// A replay: the sessions, what becomes of their answers, and those that are kept.
 #[derive(Drop)]
 pub(crate) struct Replay<V: Vault> {
-    pub(crate) core: Core<V>,
+    pub(crate) sessions: Sessions<V>,
     pub(crate) outlet: Outlet,
     pub(crate) answers: Answers,
 }
 
-impl<V: Vault> Replay<V> {
-    /// The replay before any event.
-    pub(crate) fn new(alloc: Global, core: Core<V>, outlet: Outlet) -> Replay<V>
-        ensures core { result.core ≡ core }
+impl<V: Vault + Reopen> Replay<V> {
+    /// The replay before any answer.
+    pub(crate) fn new(alloc: Global, sessions: Sessions<V>, outlet: Outlet) -> Replay<V>
+        ensures sessions { result.sessions ≡ sessions }
         ensures outlet { result.outlet ≡ outlet }
         ensures answers { result.answers.items ≡ [] }
     {
         Replay {
-            core,
+            sessions,
             outlet,
             answers: Answers::new(alloc),
         }
     }
 
-    /// Carries an event out, answers it, and keeps the answer where answers are kept. Where memory is short nothing changes.
-    pub(crate) fn carry_out(&mut self, event: &Event) -> Result<Answer, Memory>
-        requires { IsBuilt event.now }
-        ensures step { IfOk result
-            (λ answer. MakesStep V.tells V.faults event.now answer self.old.core self.new.core) }
+    /// Answers what was asked for, and keeps the answer where answers are kept. Where there is none nothing has changed.
+    pub(crate) fn answer(&mut self, asked: &Asked) -> Result<Answer, Cause>
+        requires built { MayBeAsked asked.now }
+        requires limit { self.old.sessions.entries ≤ 4194304 }
+        ensures step { IfOk result (λ answer. MakesStep V.tells V.faults asked.now answer
+            self.old.sessions self.new.sessions) }
         ensures kept { IfOk result (λ answer. self.new.answers.items
             ≡ self.old.answers.items ++ kept_of self.old.outlet (answer ∷ [])) }
         ensures outlet { self.new.outlet ≡ self.old.outlet }
-        ensures none { OnErr result (MakesNone V.tells V.faults self.old.core self.new.core) }
+        ensures none { OnErr result
+            (MakesNone V.tells V.faults self.old.sessions self.new.sessions) }
         ensures same { OnErr result (self.new.answers.items ≡ self.old.answers.items) }
+        ensures why { IfErr result (IsWhy asked.now) }
+        ensures unrefused { IsTrue V.tells → IfErr result IsNoRefusal }
+        ensures disk { result ≡ Err Cause.Disk → FaultCountRose
+            (V.faults self.old.sessions.core.vault) (V.faults self.new.sessions.core.vault) }
     {
+        let _mark: Option<Mark> = None;
         self.make_room()?;
-        match self.core.step(event) {
-            Ok(answer) => {
-                self.keep(&answer);
-                Ok(answer)
-            }
-            Err(StepFault::Memory) => Err(Memory),
-        }
+        let answer = match asked {
+            Asked::Event(event) => self.sessions.carry_out(event)?,
+            Asked::Reopen => self.sessions.reopen()?,
+        };
+        self.keep(&answer);
+        Ok(answer)
     }
 
     /// Makes room for an answer that is kept.
     fn make_room(&mut self) -> Result<(), Memory>
         ensures room { OnOk result (IsTrue (keeps self.new.outlet) → 0 < self.new.answers.room) }
-        ensures core { self.new.core ≡ self.old.core }
+        ensures sessions { self.new.sessions ≡ self.old.sessions }
         ensures outlet { self.new.outlet ≡ self.old.outlet }
         ensures answers { self.new.answers.items ≡ self.old.answers.items }
     {
@@ -72,7 +79,7 @@ impl<V: Vault> Replay<V> {
     /// Keeps an answer, where answers are kept and there is room.
     fn keep(&mut self, answer: &Answer)
         requires { IsTrue (keeps self.old.outlet) → 0 < self.old.answers.room }
-        ensures core { self.new.core ≡ self.old.core }
+        ensures sessions { self.new.sessions ≡ self.old.sessions }
         ensures outlet { self.new.outlet ≡ self.old.outlet }
         ensures kept { self.new.answers.items
             ≡ self.old.answers.items ++ kept_of self.old.outlet (answer.now ∷ []) }
@@ -82,29 +89,16 @@ impl<V: Vault> Replay<V> {
         }
     }
 
-    /// What the last line tells after so many lines.
-    pub(crate) fn summary(&self, lines: u32) -> Summary
-        ensures { result ≡ summary_in lines self.now.core }
-    {
-        let _mark: Option<Mark> = None;
-        let trail = self.core.hub().trail();
-        Summary {
-            lines,
-            calls: self.core.calls(),
-            commits: trail.commits(),
-            rollbacks: trail.rollbacks(),
-            version: self.core.version(),
-        }
-    }
-
     /// The answers that were kept, the trail and the vault. It takes no memory.
     pub(crate) fn into_parts(self) -> (Answers, Trail, V)
         ensures answers { result.0 ≡ self.answers }
-        ensures trail { result.1.items ≡ self.core.hub.trail }
-        ensures vault { result.2 ≡ self.core.vault }
+        ensures trail { result.1.items ≡ self.sessions.core.hub.trail }
+        ensures vault { result.2 ≡ self.sessions.core.vault }
     {
-        let Replay { core, answers, .. } = self;
-        let (hub, vault) = core.into_parts();
-        (answers, hub.into_trail(), vault)
+        let Replay {
+            sessions, answers, ..
+        } = self;
+        let (trail, vault) = sessions.into_parts();
+        (answers, trail, vault)
     }
 }

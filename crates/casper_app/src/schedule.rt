@@ -1,18 +1,27 @@
 ghost use Rattle.std.specs.Prelude.{◌≡◌, ℕ, List, [], ◌∷◌, ◌<◌, ◌≤◌, length, map, position, All, IfSome};
 ghost use Rattle.casper_text.specs.Span.{IsWithin, word_at};
-ghost use Rattle.casper_app.specs.Schedule.{client_of as client_in, lone_client as lone_client_in, place_of as place_in, right_of as right_in, want_of as want_in, wants_of as wants_in, rising_wants, is_colon, join_of, read_of, write_of, acquire_of, serve_of, depart_of, vanish_of, lose_of, stabilise_of, write_out_of, finish_of, settle_of, event_of as event_of_line, is_unbuilt as begins_unbuilt, is_unbuilt_verb as among_unbuilt, is_comment as begins_comment, parsed_words as words_parsed, parsed_line as line_parsed};
+ghost use Rattle.casper_app.specs.Schedule.{client_of as client_in, lone_client as lone_client_in, place_of as place_in, right_of as right_in, want_of as want_in, wants_of as wants_in, rising_wants, is_colon, join_of, read_of, write_of, acquire_of, serve_of, depart_of, vanish_of, lose_of, stabilise_of, write_out_of, finish_of, settle_of, event_of as event_of_line, is_reopen as asks_to_reopen, asked_of as asked_of_words, is_unbuilt as begins_unbuilt, is_comment as begins_comment, parsed_words as words_parsed, parsed_line as line_parsed};
 
 use casper_model::Event;
 use casper_text::{Places, Span, number, small_number};
 use casper_words::{Page, Right, Want, Wants, Who};
+
+/// What a line of a schedule asks for.
+#[derive(Clone, Copy, Debug, PartialEq, Eq)]
+pub enum Asked {
+    /// An event.
+    Event(Event),
+    /// That the store is opened again, over which a new session begins.
+    Reopen,
+}
 
 /// What a line of a schedule is.
 #[derive(Clone, Copy, Debug, PartialEq, Eq)]
 pub enum Parsed {
     /// A line that is counted and not answered.
     Skip,
-    /// A line that asks for an event.
-    Event(Event),
+    /// A line that asks for something.
+    Asked(Asked),
     /// A line of a known form that is not built yet.
     Unbuilt,
     /// A line of no known form.
@@ -46,10 +55,31 @@ fn parse_words(line: &[u8], spans: &[Span]) -> Parsed
     let Some(first) = spans.first() else {
         return Parsed::Skip;
     };
-    match event_of(line, spans) {
-        Some(event) => Parsed::Event(event),
+    match asked_of(line, spans) {
+        Some(asked) => Parsed::Asked(asked),
         None if is_unbuilt(first.of(line)) => Parsed::Unbuilt,
         None => Parsed::Bad,
+    }
+}
+
+fn asked_of(line: &[u8], spans: &[Span]) -> Option<Asked>
+    requires { All (IsWithin line.now) spans.now }
+    ensures { result ≡ asked_of_words (map (word_at line.now) spans.now) }
+{
+    if is_reopen(line, spans) {
+        return Some(Asked::Reopen);
+    }
+    Some(Asked::Event(event_of(line, spans)?))
+}
+
+/// Tells whether the verb of a reopen stands in a line alone.
+fn is_reopen(line: &[u8], spans: &[Span]) -> bool
+    requires { All (IsWithin line.now) spans.now }
+    ensures { result ≡ asks_to_reopen (map (word_at line.now) spans.now) }
+{
+    match spans {
+        [verb] => verb.of(line) == b"reopen".as_slice(),
+        _ => false,
     }
 }
 
@@ -277,11 +307,5 @@ fn right_of(word: &[u8]) -> Option<Right>
 fn is_unbuilt(first: &[u8]) -> bool
     ensures { result ≡ begins_unbuilt first.now }
 {
-    client_of(first).is_some() || is_unbuilt_verb(first)
-}
-
-fn is_unbuilt_verb(first: &[u8]) -> bool
-    ensures { result ≡ among_unbuilt first.now }
-{
-    first == b"reopen".as_slice()
+    client_of(first).is_some()
 }

@@ -6,17 +6,20 @@ ghost use Rattle.casper_words.specs.Count.{FaultCountRose};
 ghost use Rattle.casper_app.specs.Comes.{ComesFrom, ComesInShape};
 ghost use Rattle.casper_app.specs.Command.{IsCommand, IsOpening};
 ghost use Rattle.casper_app.specs.Status.{status_of_end};
-ghost use Rattle.casper_app.specs.Ending.{IsRun, IsLegalRun, RunsCommand, IsLegalCommand, RunsAudit, end_of_audit, RunsReplay, RunsInMemory, IsLegalInMemory, EndsWith, IsDone, start_of};
+ghost use Rattle.casper_app.specs.Ending.{IsRun, HasItsStore, IsUnrefused, IsLegalRun, RunsCommand, IsLegalCommand, RunsAudit, end_of_audit, RunsReplay, RunsInMemory, IsLegalInMemory, EndsWith, IsDone, start_of};
 
 use crate::command::{Command, MOST_ENTRIES, Opening};
 use crate::ending::write_ending;
 use crate::lines::take_lines;
+use crate::past::Past;
 use crate::replay::Replay;
 use crate::room::Room;
+use crate::sessions::Sessions;
 use crate::{Cause, End, Outlet};
 use casper_audit::{AuditFault, Verdict, audit};
 use casper_core::Core;
 use casper_disk::{MemVault, Vault};
+use casper_reopen::Reopen;
 use casper_io::{Sink, Source};
 use casper_space::Answers;
 use casper_text::Word;
@@ -29,9 +32,9 @@ use std::alloc::Global;
 pub struct Ended {
     /// The status with which the program ends.
     pub status: u8,
-    /// The answers to the events that were carried out, in order.
+    /// The answers to what the lines asked for, in order.
     pub answers: Answers,
-    /// The trail of the core that gave these answers.
+    /// The trail of the last session.
     pub trail: Trail,
     /// How the call ended.
     pub last: End,
@@ -51,6 +54,8 @@ pub fn run<S: Source, K: Sink>(alloc: Global, words: &[Word], source: &mut S, si
     // What was recorded is one legal history of a plain page array, and so it is with the calls that are pending after it.
     ensures legal { IsLegalRun words.now
         (S.left source.old) result.answers.items result.trail.items }
+    // A store in memory is never refused, and its disk does not fail.
+    ensures store { HasItsStore result.last }
     // Status 0 says that the input was read to its end. A fault of the input or of the output ends the call, and nothing more is
     // asked of what failed: that of the input ends with status 3, unless the output fails, and that of the output with status 4.
     ensures end { IsDone result.last → IfSome (S.left source.new) (λ left. left ≡ []) }
@@ -86,6 +91,7 @@ pub fn carry_out<S: Source, K: Sink>(
         result.answers.items result.trail.items result.last }
     ensures legal { IsLegalCommand command.now
         (S.left source.old) result.answers.items result.trail.items }
+    ensures store { HasItsStore result.last }
     ensures end { IsDone result.last → IfSome (S.left source.new) (λ left. left ≡ []) }
     ensures status { result.status ≡ status_of_end result.last }
     ensures read_fault { result.last ≡ End.Stopped Cause.Read
@@ -114,6 +120,7 @@ fn audit_source<S: Source, K: Sink>(alloc: Global, source: &mut S, sink: &mut K)
     ensures run { RunsAudit (S.left source.old) (S.left source.new) (K.taken sink.old)
         (K.taken sink.new)
         result.answers.items result.trail.items result.last }
+    ensures store { HasItsStore result.last }
     ensures end { IsDone result.last → IfSome (S.left source.new) (λ left. left ≡ []) }
     ensures status { result.status ≡ status_of_end result.last }
     ensures read_fault { result.last ≡ End.Stopped Cause.Read
@@ -171,6 +178,7 @@ fn replay_in_memory<S: Source, K: Sink>(
         result.answers.items result.trail.items result.last }
     ensures legal { IsLegalInMemory opening.now outlet
         (S.left source.old) result.answers.items result.trail.items }
+    ensures store { HasItsStore result.last }
     ensures end { IsDone result.last → IfSome (S.left source.new) (λ left. left ≡ []) }
     ensures status { result.status ≡ status_of_end result.last }
     ensures read_fault { result.last ≡ End.Stopped Cause.Read
@@ -185,7 +193,7 @@ fn replay_in_memory<S: Source, K: Sink>(
 {
     let _mark: Option<Mark> = None;
     match core_in_memory(alloc, opening) {
-        Ok(core) => replay(alloc, core, outlet, source, sink).0,
+        Ok(core) => replay(alloc, core, opening.entries, outlet, source, sink).0,
         Err(Memory) => {
             let trail = Trail::new(alloc, opening.entries);
             end_unread(alloc, Cause::Memory, trail, sink)
@@ -198,6 +206,7 @@ fn core_in_memory(alloc: Global, opening: &Opening) -> Result<Core<MemVault>, Me
     requires { IsOpening opening.now }
     ensures stands { IfOk result (λ core. Represents (start_of opening.now) core) }
     ensures calls { IfOk result (λ core. core.calls ≡ 0) }
+    ensures trail { IfOk result (λ core. core.hub.trail ≡ []) }
 {
     let vault = MemVault::new(alloc, opening.pages)?;
     match Core::new(alloc, vault, opening.entries, opening.cache) {
@@ -206,25 +215,32 @@ fn core_in_memory(alloc: Global, opening: &Opening) -> Result<Core<MemVault>, Me
     }
 }
 
-/// Replays the lines of the source over a core, from where it stands, and hands its vault back.
-fn replay<V: Vault, S: Source, K: Sink>(
+/// Replays the lines of the source over a core with an empty trail, and hands its vault back. After a reopen a trail takes so many
+/// entries.
+fn replay<V: Vault + Reopen, S: Source, K: Sink>(
     alloc: Global,
     core: Core<V>,
+    entries: u32,
     outlet: Outlet,
     source: &mut S,
     sink: &mut K,
 ) -> (Ended, V)
     requires calls { core.calls ≡ 0 }
+    requires trail { core.hub.trail ≡ [] }
+    requires entries { entries ≤ 4194304 }
     requires source { S.is_broken source.old ≡ false }
     requires sink { K.is_broken sink.old ≡ false }
     ensures run { IsTrue V.tells → (start : State) → Represents start core
-        → RunsReplay (ComesFrom start) outlet (V.faults core.vault) (V.faults result.1)
+        → RunsReplay (ComesFrom entries start) outlet (V.faults core.vault) (V.faults result.1)
         (S.left source.old) (S.left source.new) (K.taken sink.old)
         (K.taken sink.new) result.0.answers.items result.0.trail.items result.0.last }
     ensures shape { (start : State) → RepresentsButWords start core
-        → RunsReplay (ComesInShape start) outlet (V.faults core.vault) (V.faults result.1)
+        → RunsReplay (ComesInShape entries start) outlet (V.faults core.vault) (V.faults result.1)
         (S.left source.old) (S.left source.new) (K.taken sink.old)
         (K.taken sink.new) result.0.answers.items result.0.trail.items result.0.last }
+    ensures unrefused { IsTrue V.tells → IsUnrefused result.0.last }
+    ensures disk { result.0.last ≡ End.Stopped Cause.Disk
+        → FaultCountRose (V.faults core.vault) (V.faults result.1) }
     ensures end { IsDone result.0.last → IfSome (S.left source.new) (λ left. left ≡ []) }
     ensures status { result.0.status ≡ status_of_end result.0.last }
     ensures read_fault { result.0.last ≡ End.Stopped Cause.Read
@@ -246,9 +262,14 @@ fn replay<V: Vault, S: Source, K: Sink>(
             return (ended, vault);
         }
     };
-    let mut replay = Replay::new(alloc, core, outlet);
+    let sessions = Sessions {
+        core,
+        entries,
+        past: Past::none(),
+    };
+    let mut replay = Replay::new(alloc, sessions, outlet);
     let said = match take_lines(&mut replay, &mut room, source, sink) {
-        Ok(lines) => End::Done(replay.summary(lines)),
+        Ok(lines) => End::Done(replay.sessions.summary(lines)),
         Err(cause) => End::Stopped(cause),
     };
     let last = write_ending(alloc, sink, said);

@@ -1,5 +1,5 @@
-use Rattle.casper_app.proofs.ChainLemmas.{played_chain, totals}
+use Rattle.casper_app.proofs.ChainLemmas.{played_chain, plays_are_sessions}
 use Rattle.casper_app.proofs.laws.chain_laws.Goals as goal
 
 pub returns : goal.returns
-returns c = record { chain = played_chain; totals = totals }
+returns c = record { sessions = plays_are_sessions; chain = played_chain }

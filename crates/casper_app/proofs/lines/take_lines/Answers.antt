@@ -37,3 +37,6 @@ returns-in_err-read_line-2-clause-reading g c =
     (IsReading g.V.Vault.tells g.V.Vault.faults (g.S.Source.left c.args.source.now) (g.S.Source.left c.read_line-2.new.source) (g.K.Sink.taken c.args.sink.now) (g.K.Sink.taken c.loop-lines.sink) c.args.replay.now c.loop-lines.replay)
     c.from_residual-in_err-read_line-2.ensures.1
     (reading_failed_last c.loop-lines.invariant.0 c.in_err-read_line-2.field-0.0 (omega (arith, c.loop-lines-test.false, c.loop-lines.auto.lines-end)) c.in_err-read_line-2.ensures.next)
+
+pub take_line-requires-clause-limit : goal.take_line-requires-clause-limit
+take_line-requires-clause-limit g c = omega (arith, c.loop-lines.invariant.0.carries.entries, c.requires.limit)

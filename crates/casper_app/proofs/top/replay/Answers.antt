@@ -4,51 +4,56 @@ use Rattle.casper_core.specs.Shaped.{RepresentsButWords}
 use Rattle.casper_app.specs.declared.end.End.TheVariants as end
 use Rattle.casper_app.specs.Comes.{ComesFrom, ComesInShape}
 use Rattle.casper_app.specs.Ending.{EndsWith}
-use Rattle.casper_app.proofs.CarryLemmas.{trail_carried}
+use Rattle.casper_app.specs.Carrying.{StandsBy}
+use Rattle.casper_app.specs.Play.{begun}
 use Rattle.casper_app.proofs.RunLemmas.{runs_done, runs_stopped, runs_unread, shape_done, shape_stopped, shape_unread, runs_at, source_by, stopped_by}
 use Rattle.casper_app.proofs.top.replay.Goals as goal
 use Rattle.casper_app.proofs.top.replay.Goals.{in-Ok-take_lines, in-Err-take_lines}
 
 pub returns-in-Err-clause-run : goal.returns-in-Err-clause-run
 returns-in-Err-clause-run g c told start stands =
-    runs_at (ComesFrom start) c.args.outlet c.args.outlet _ _ _ _ _ _ _ _ _ _ _ _ _ refl refl (ap g.V.Vault.faults (sym c.into_parts-hub.ensures.vault)) refl refl
-    (runs_unread start c.args.outlet (g.V.Vault.faults c.args.core.vault) _ _ _ _ _ _ c.end_unread-ended.ensures.ends c.end_unread-ended.ensures.answers
-    (c.end_unread-ended.ensures.trail ∙ c.into_trail.ensures.items ∙ ap (λ h. h.trail) c.into_parts-hub.ensures.hub ∙ trail_carried start c.args.core stands))
+    runs_at (ComesFrom c.args.entries start) c.args.outlet c.args.outlet _ _ _ _ _ _ _ _ _ _ _ _ _ refl refl (ap g.V.Vault.faults (sym c.into_parts-hub.ensures.vault)) refl refl
+    (runs_unread c.args.entries start c.args.outlet (g.V.Vault.faults c.args.core.vault) _ _ _ _ _ _ c.end_unread-ended.ensures.ends c.end_unread-ended.ensures.answers
+    (c.end_unread-ended.ensures.trail ∙ c.into_trail.ensures.items ∙ ap (λ h. h.trail) c.into_parts-hub.ensures.hub ∙ sym stands.parts.shared.trail))
 
 pub returns-in-Err-clause-shape : goal.returns-in-Err-clause-shape
 returns-in-Err-clause-shape g c start shape =
-    runs_at (ComesInShape start) c.args.outlet c.args.outlet _ _ _ _ _ _ _ _ _ _ _ _ _ refl refl (ap g.V.Vault.faults (sym c.into_parts-hub.ensures.vault)) refl refl
-    (shape_unread start c.args.outlet (g.V.Vault.faults c.args.core.vault) _ _ _ _ _ _ c.end_unread-ended.ensures.ends c.end_unread-ended.ensures.answers
+    runs_at (ComesInShape c.args.entries start) c.args.outlet c.args.outlet _ _ _ _ _ _ _ _ _ _ _ _ _ refl refl (ap g.V.Vault.faults (sym c.into_parts-hub.ensures.vault)) refl refl
+    (shape_unread c.args.entries start c.args.outlet (g.V.Vault.faults c.args.core.vault) _ _ _ _ _ _ c.end_unread-ended.ensures.ends c.end_unread-ended.ensures.answers
     (c.end_unread-ended.ensures.trail ∙ c.into_trail.ensures.items ∙ ap (λ h. h.trail) c.into_parts-hub.ensures.hub ∙ sym shape.shared.trail))
 
 pub returns-clause-run : goal.returns-clause-run
 returns-clause-run g c told start stands =
-    let here = subst (λ core. Represents start core) (sym c.new-replay.ensures.core) stands in
-    let calls = ap (λ core. core.calls) c.new-replay.ensures.core ∙ c.requires.calls in
-    runs_at (ComesFrom start) c.new-replay.result.outlet c.args.outlet _ _ _ _ _ _ _ _ _ _ _ _ _ c.new-replay.ensures.outlet
-    (ap (λ core. g.V.Vault.faults core.vault) c.new-replay.ensures.core) (ap g.V.Vault.faults (sym c.into_parts-answers.ensures.vault))
+    let here : StandsBy Represents (begun start) c.new-replay.result.sessions =
+    subst (λ sessions. StandsBy Represents (begun start) sessions) (sym c.new-replay.ensures.sessions) (record { state = stands; past = c.none.ensures }) in
+    let calls = ap (λ sessions. sessions.core.calls) c.new-replay.ensures.sessions ∙ c.requires.calls in
+    let same = ap (λ sessions. sessions.entries) c.new-replay.ensures.sessions in
+    runs_at (ComesFrom c.args.entries start) c.new-replay.result.outlet c.args.outlet _ _ _ _ _ _ _ _ _ _ _ _ _ c.new-replay.ensures.outlet
+    (ap (λ sessions. g.V.Vault.faults sessions.core.vault) c.new-replay.ensures.sessions) (ap g.V.Vault.faults (sym c.into_parts-answers.ensures.vault))
     (ap (λ a. a.items) (sym c.into_parts-answers.ensures.answers)) (sym c.into_parts-answers.ensures.trail)
     (elim c.match-take_lines.branch [
-      | in-Ok-take_lines w ↦ runs_done w.in-Ok-take_lines.lines start _ _ w.in-Ok-take_lines.ensures.reading calls c.new-replay.ensures.answers
+      | in-Ok-take_lines w ↦ runs_done w.in-Ok-take_lines.lines c.args.entries start _ _ same w.in-Ok-take_lines.ensures.reading calls c.new-replay.ensures.answers
           (subst (λ e. EndsWith e c.write_ending-last.result (g.K.Sink.taken c.take_lines.new.sink) (g.K.Sink.taken c.write_ending-last.new.sink)) (w.said-is ∙ ap end.Done w.summary.ensures) c.write_ending-last.ensures.ends)
           told here
-      | in-Err-take_lines w ↦ runs_stopped w.in-Err-take_lines.cause start _ _ w.in-Err-take_lines.ensures.reading c.new-replay.ensures.answers
+      | in-Err-take_lines w ↦ runs_stopped w.in-Err-take_lines.cause c.args.entries start _ _ same w.in-Err-take_lines.ensures.reading c.new-replay.ensures.answers
           (subst (λ e. EndsWith e c.write_ending-last.result (g.K.Sink.taken c.take_lines.new.sink) (g.K.Sink.taken c.write_ending-last.new.sink)) w.said-is c.write_ending-last.ensures.ends)
           told here
     ])
 
 pub returns-clause-shape : goal.returns-clause-shape
-returns-clause-shape g c start shape =
-    let here = subst (λ core. RepresentsButWords start core) (sym c.new-replay.ensures.core) shape in
-    let calls = ap (λ core. core.calls) c.new-replay.ensures.core ∙ c.requires.calls in
-    runs_at (ComesInShape start) c.new-replay.result.outlet c.args.outlet _ _ _ _ _ _ _ _ _ _ _ _ _ c.new-replay.ensures.outlet
-    (ap (λ core. g.V.Vault.faults core.vault) c.new-replay.ensures.core) (ap g.V.Vault.faults (sym c.into_parts-answers.ensures.vault))
+returns-clause-shape g c start stands =
+    let here : StandsBy RepresentsButWords (begun start) c.new-replay.result.sessions =
+    subst (λ sessions. StandsBy RepresentsButWords (begun start) sessions) (sym c.new-replay.ensures.sessions) (record { state = stands; past = c.none.ensures }) in
+    let calls = ap (λ sessions. sessions.core.calls) c.new-replay.ensures.sessions ∙ c.requires.calls in
+    let same = ap (λ sessions. sessions.entries) c.new-replay.ensures.sessions in
+    runs_at (ComesInShape c.args.entries start) c.new-replay.result.outlet c.args.outlet _ _ _ _ _ _ _ _ _ _ _ _ _ c.new-replay.ensures.outlet
+    (ap (λ sessions. g.V.Vault.faults sessions.core.vault) c.new-replay.ensures.sessions) (ap g.V.Vault.faults (sym c.into_parts-answers.ensures.vault))
     (ap (λ a. a.items) (sym c.into_parts-answers.ensures.answers)) (sym c.into_parts-answers.ensures.trail)
     (elim c.match-take_lines.branch [
-      | in-Ok-take_lines w ↦ shape_done w.in-Ok-take_lines.lines start _ _ w.in-Ok-take_lines.ensures.reading calls c.new-replay.ensures.answers
+      | in-Ok-take_lines w ↦ shape_done w.in-Ok-take_lines.lines c.args.entries start _ _ same w.in-Ok-take_lines.ensures.reading calls c.new-replay.ensures.answers
           (subst (λ e. EndsWith e c.write_ending-last.result (g.K.Sink.taken c.take_lines.new.sink) (g.K.Sink.taken c.write_ending-last.new.sink)) (w.said-is ∙ ap end.Done w.summary.ensures) c.write_ending-last.ensures.ends)
           here
-      | in-Err-take_lines w ↦ shape_stopped w.in-Err-take_lines.cause start _ _ w.in-Err-take_lines.ensures.reading c.new-replay.ensures.answers
+      | in-Err-take_lines w ↦ shape_stopped w.in-Err-take_lines.cause c.args.entries start _ _ same w.in-Err-take_lines.ensures.reading c.new-replay.ensures.answers
           (subst (λ e. EndsWith e c.write_ending-last.result (g.K.Sink.taken c.take_lines.new.sink) (g.K.Sink.taken c.write_ending-last.new.sink)) w.said-is c.write_ending-last.ensures.ends)
           here
     ])

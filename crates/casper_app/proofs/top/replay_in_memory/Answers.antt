@@ -12,9 +12,9 @@ returns-in-Ok-clause-legal g c = legal_in_memory c.args.opening.now c.args.outle
 pub returns-in-Err-clause-run : goal.returns-in-Err-clause-run
 returns-in-Err-clause-run g c =
     runs_in_memory c.args.opening.now c.args.outlet _ _ _ _ _ _ _
-    (runs_unread (start_of c.args.opening.now) c.args.outlet 0 _ _ _ _ _ _ c.end_unread.ensures.ends c.end_unread.ensures.answers (c.end_unread.ensures.trail ∙ c.new-trail.ensures.empty))
+    (runs_unread c.args.opening.now.entries (start_of c.args.opening.now) c.args.outlet 0 _ _ _ _ _ _ c.end_unread.ensures.ends c.end_unread.ensures.answers (c.end_unread.ensures.trail ∙ c.new-trail.ensures.empty))
 
 pub returns-in-Err-clause-legal : goal.returns-in-Err-clause-legal
 returns-in-Err-clause-legal g c =
     legal_in_memory c.args.opening.now c.args.outlet 0 0 (g.S.Source.left c.args.source.now) _ _ _ _ _ _
-    (runs_unread (start_of c.args.opening.now) c.args.outlet 0 (g.S.Source.left c.args.source.now) _ _ _ _ _ c.end_unread.ensures.ends c.end_unread.ensures.answers (c.end_unread.ensures.trail ∙ c.new-trail.ensures.empty))
+    (runs_unread c.args.opening.now.entries (start_of c.args.opening.now) c.args.outlet 0 (g.S.Source.left c.args.source.now) _ _ _ _ _ c.end_unread.ensures.ends c.end_unread.ensures.answers (c.end_unread.ensures.trail ∙ c.new-trail.ensures.empty))

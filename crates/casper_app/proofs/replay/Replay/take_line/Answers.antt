@@ -1,13 +1,13 @@
 use Rattle.std.proofs.Common.{ap, sym, ◌∙◌}
 use Rattle.casper_app.specs.Schedule.{parsed_line}
-use Rattle.casper_app.proofs.TakingLemmas.{built, input_of_event}
-use Rattle.casper_app.proofs.SessionLemmas.{named_by_line}
+use Rattle.casper_app.proofs.TakingLemmas.{may_be_asked, input_of_asked}
+use Rattle.casper_app.proofs.SessionLemmas.{askable_by_line}
 use Rattle.casper_app.proofs.replay.Replay.take_line.Goals as goal
 
-pub take_event-requires-clause-built : goal.take_event-requires-clause-built
-take_event-requires-clause-built g c = built c.in-Event.event (named_by_line c.bytes.result.now c.in-Event.event (sym c.parse_line.ensures ∙ c.in-Event.is))
+pub take_asked-requires-clause-built : goal.take_asked-requires-clause-built
+take_asked-requires-clause-built g c = may_be_asked c.in-Asked.asked (askable_by_line c.bytes.result.now c.in-Asked.asked (sym c.parse_line.ensures ∙ c.in-Asked.is))
 
-pub returns-in-Event-clause-takes : goal.returns-in-Event-clause-takes
-returns-in-Event-clause-takes g c =
-    input_of_event g.V.Vault.tells g.V.Vault.faults c.args.number c.args.room.now.line c.in-Event.event _ _ _ _ c.take_event.result
-    (ap parsed_line (sym c.bytes.ensures.bytes) ∙ sym c.parse_line.ensures ∙ c.in-Event.is) c.take_event.ensures.takes
+pub returns-in-Asked-clause-takes : goal.returns-in-Asked-clause-takes
+returns-in-Asked-clause-takes g c =
+    input_of_asked g.V.Vault.tells g.V.Vault.faults c.args.number c.args.room.now.line c.in-Asked.asked _ _ _ _ c.take_asked.result
+    (ap parsed_line (sym c.bytes.ensures.bytes) ∙ sym c.parse_line.ensures ∙ c.in-Asked.is) c.take_asked.ensures.takes

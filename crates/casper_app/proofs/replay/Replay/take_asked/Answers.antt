@@ -1,6 +1,6 @@
 use Rattle.std.proofs.Common.{refl, sym, ◌∙◌, Some}
-use Rattle.casper_app.proofs.TakingLemmas.{unwritten, written_whole, written_text, front_of, memory_short}
-use Rattle.casper_app.proofs.replay.Replay.take_event.Goals as goal
+use Rattle.casper_app.proofs.TakingLemmas.{unwritten, written_whole, written_text, front_of, memory_short, unanswered}
+use Rattle.casper_app.proofs.replay.Replay.take_asked.Goals as goal
 
 pub returns-then-not-writes-clause-takes : goal.returns-then-not-writes-clause-takes
 returns-then-not-writes-clause-takes g c = record {
@@ -13,7 +13,7 @@ returns-then-not-writes-clause-takes g c = record {
 
 pub returns-in_err-text-clause-takes : goal.returns-in_err-text-clause-takes
 returns-in_err-text-clause-takes g c =
-    memory_short g.V.Vault.tells g.V.Vault.faults c.args.event.now c.in_ok-answer.answer c.args.self.now c.carry_out.new.self (g.K.Sink.taken c.args.sink.now)
+    memory_short g.V.Vault.tells g.V.Vault.faults c.args.asked.now c.in_ok-answer.answer c.args.self.now c.answer.new.self (g.K.Sink.taken c.args.sink.now)
     c.from_residual-in_err-text.result c.from_residual-in_err-text.ensures.1 c.in_ok-answer.ensures.step c.in_ok-answer.ensures.outlet c.in_ok-answer.ensures.kept
     (written_whole _ _ c.in_ok-answer.answer c.in_ok-answer.ensures.outlet (sym c.writes.ensures ∙ c.if-not-writes.false))
 
@@ -43,3 +43,8 @@ returns-in-Err-Failed-clause-takes g c = record {
     front_of _ _ c.in_ok-text.text.now _ c.in_ok-text.ensures.text c.in-Err-Failed.ensures.part,
   );
 }
+
+pub returns-in_err-answer-clause-takes : goal.returns-in_err-answer-clause-takes
+returns-in_err-answer-clause-takes g c =
+    unanswered g.V.Vault.tells g.V.Vault.faults c.args.asked.now c.in_err-answer.field-0.0 c.args.self.now c.answer.new.self (g.K.Sink.taken c.args.sink.now)
+    c.from_residual.result c.from_residual.ensures.1 c.in_err-answer.ensures.why c.in_err-answer.ensures.none c.in_err-answer.ensures.outlet c.in_err-answer.ensures.same
