@@ -57,8 +57,7 @@ plays_then : {V : Type 0} (rules : Rules) (IsOf : State → CoreView V → Type 
     → PlaysBy rules IsOf (asked ++ one ∷ []) (given ++ said ∷ []) first last
 plays_then rules IsOf asked given one said first middle last same plays takes standing stands =
     let run = plays standing stands in
-    let step = takes run.0 run.2 in
-    (
+    let step = takes run.0 run.2 in (
       step.0,
       plays_more rules first.entries asked given one said standing run.0 step.0 run.1 (subst (λ (n : ℕ). Takes rules n run.0 one said step.0) same step.1),
       step.2,

@@ -96,7 +96,9 @@ impl<V: Vault + Reopen> Replay<V> {
         ensures vault { result.2 ≡ self.sessions.core.vault }
     {
         let Replay {
-            sessions, answers, ..
+            sessions,
+            answers,
+            ..
         } = self;
         let (trail, vault) = sessions.into_parts();
         (answers, trail, vault)

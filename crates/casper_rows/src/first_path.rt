@@ -87,7 +87,7 @@ fn words(rt: HostRuntime) -> Result<(), Fail> {
 
 #[test]
 fn lines(rt: HostRuntime) -> Result<(), Fail> {
-    let table: [(&[u8], u8); 20] = [
+    let table: [(&[u8], u8); 22] = [
         (b"join 32", 0),
         (b"  join   1  ", 0),
         (b"#", 0),
@@ -104,7 +104,9 @@ fn lines(rt: HostRuntime) -> Result<(), Fail> {
         (b"join\t1", 8),
         (b" #", 8),
         (b"serve 1", 0),
-        (b"reopen", 10),
+        (b"reopen", 0),
+        (b"  reopen  ", 0),
+        (b"reopen now", 8),
         (b"acquire 1 0:r 1:r 2:r 3:r 4:r", 8),
         (b"1 new 1 2", 10),
         (b"33 new 1 2", 8),

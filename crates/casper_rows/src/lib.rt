@@ -8,6 +8,8 @@ mod losses;
 #[cfg(test)]
 mod recalls;
 #[cfg(test)]
+mod reopenings;
+#[cfg(test)]
 mod replaying;
 #[cfg(test)]
 mod stabilisations;

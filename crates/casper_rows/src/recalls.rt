@@ -38,7 +38,7 @@ fn rows(rt: HostRuntime) -> Result<(), Fail> {
 /// Lines of a known form that are not built yet.
 #[test]
 fn unbuilt_lines(rt: HostRuntime) -> Result<(), Fail> {
-    let lines: [&str; 3] = ["reopen", "1 new 1 2", "32 names"];
+    let lines: [&str; 2] = ["1 new 1 2", "32 names"];
     for line in lines {
         let input = format!(in rt.alloc(); "join 1\n{line}\n")?;
         let (status, written) = replayed(rt.alloc(), "replay mem:8", input.as_bytes(), &[], &[])?;

@@ -4,7 +4,7 @@ use std::test::Fail;
 /// Rows of stabilisations: the lines, and the answers with the last line.
 #[test]
 fn rows(rt: HostRuntime) -> Result<(), Fail> {
-    let table: [(&[u8], &str); 5] = [
+    let table: [(&[u8], &str); 4] = [
         // Recall and merge. The last stabilise is answered with the outcome that was kept.
         (
             b"join 1\njoin 2\nwrite 1 5 0 17\nread 2 5 0\nserve 1\nread 2 5 0\nstabilise 1\nwriteout 1\nfinish 1\nstabilise 1\n",
@@ -14,11 +14,6 @@ fn rows(rt: HostRuntime) -> Result<(), Fail> {
         (
             b"join 1\njoin 2\nacquire 1 5:w\nread 2 5 0\nserve 1\nread 2 5 0\nwrite 1 6 0 9\nstabilise 1\nwriteout 1\nfinish 1\n",
             "joined\njoined\ngranted\npending 1\nok\n0\nok\nsealed 1\nwritten 2\ncommit 4\nend lines=10 calls=2 commits=1 rollbacks=0 version=2\n",
-        ),
-        // Merge through two pages.
-        (
-            b"join 1\njoin 2\njoin 3\njoin 4\nwrite 1 10 0 7\nread 2 10 0\nserve 1\nread 2 10 0\nwrite 2 20 0 8\nread 3 20 0\nserve 2\nread 3 20 0\nwrite 4 30 0 9\nserve 4\nstabilise 3\nwriteout 3\nfinish 3\n",
-            "joined\njoined\njoined\njoined\nok\npending 1\nok\n7\nok\npending 2\nok\n8\nok\nok\nsealed 2\nwritten 2\ncommit 10\nend lines=17 calls=5 commits=1 rollbacks=0 version=2\n",
         ),
         // A departed member.
         (
