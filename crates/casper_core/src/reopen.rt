@@ -1,6 +1,7 @@
 ghost use Rattle.std.specs.Prelude.{◌≡◌, ◌≤◌, [], IsTrue, IsErrOf, IfErr, OnOk, OnErr};
 ghost use Rattle.casper_words.specs.Count.{FaultCountRose};
 ghost use Rattle.casper_disk.specs.Disk.{Took};
+ghost use Rattle.casper_disk.specs.Vault.{IsOldOrNewImage, changes_in, version_settled};
 ghost use Rattle.casper_model.specs.State.{State, start};
 ghost use Rattle.casper_reopen.specs.Reopening.{IsOfTheOutside};
 ghost use Rattle.casper_sessions.specs.Chain.{IsFound};
@@ -49,7 +50,10 @@ impl<V: Vault + Reopen> Core<V> {
             → RepresentsButWords state self.new) }
         ensures images { IsTrue V.tells →
             Took (V.moment self.old.vault) (V.moment self.new.vault) (V.images_since self.old.vault)
-            (V.images_since self.new.vault) (V.images_now self.old.vault) }
+            (V.images_since self.new.vault)
+            (IsOldOrNewImage (V.image self.old.vault) (V.version self.old.vault)
+            (changes_in (V.doubt self.old.vault))
+            (version_settled (V.doubt self.old.vault) (V.version self.old.vault))) }
         ensures vault { KeepsVault V.size V.faults V.leads_to self.old.vault self.new.vault }
         ensures sound { IsSound self.new }
     {

@@ -1,6 +1,7 @@
 ghost use Rattle.std.specs.Prelude.{◌≡◌, ◌≤◌, None, is_some, IsTrue, IsErrOf, IfErr, OnOk, OnErr};
 ghost use Rattle.casper_words.specs.Count.{FaultCountRose};
 ghost use Rattle.casper_disk.specs.Disk.{Took};
+ghost use Rattle.casper_disk.specs.Vault.{IsOldOrNewImage, changes_in, version_settled};
 ghost use Rattle.casper_reopen.specs.Reopening.{IsOfTheOutside, saved_by};
 
 use casper_disk::Vault;
@@ -32,6 +33,9 @@ pub trait Reopen: Vault {
         ensures never_falls { Self.faults self.old ≤ Self.faults self.new }
         ensures images { IsTrue Self.tells →
             Took (Self.moment self.old) (Self.moment self.new) (Self.images_since self.old)
-            (Self.images_since self.new) (Self.images_now self.old) }
+            (Self.images_since self.new)
+            (IsOldOrNewImage (Self.image self.old) (Self.version self.old)
+            (changes_in (Self.doubt self.old))
+            (version_settled (Self.doubt self.old) (Self.version self.old))) }
         ensures leads { Self.leads_to self.old self.new };
 }
