@@ -1,5 +1,5 @@
 use Rattle.std.proofs.Common.{◌≡◌, ◌⊎◌, ℕ, ◌+◌, ◌≤◌, List, Bool, refl, sym, ap, ◌∙◌, subst, ⊎_elim, inl, inr}
-use Rattle.std.specs.Prelude.{Option, None, Some, IsTrue}
+use Rattle.std.specs.Prelude.{Option, None, Some, IsTrue, Result, Ok, Err, OnErr}
 use Rattle.casper_words.specs.Crew.{IsClient}
 use Rattle.casper_space.specs.Changes.{Change, VaultRoom, with_changes}
 use Rattle.casper_disk.specs.Disk.{KeepsImages, Took}
@@ -28,6 +28,11 @@ use Rattle.casper_core.specs.WritingOut.{busy_in, IsCommit}
 use Rattle.casper_core.proofs.WriteOuts.{job_in, job_here, busy_here, same_changes}
 
 -- What a stop leaves of a vault is what one at a moment of a state leaves.
+
+-- what is so in any case is so of an error
+pub on_err : {T E : Type 0} (result : Result T E) (P : Type 0) → P → OnErr result P
+on_err (Ok value) P is = tt
+on_err (Err cause) P is = is
 
 -- what was saved, as an opening finds it
 abbrev as_found : Saved → Found
@@ -79,6 +84,11 @@ left_writing core lead client sound one sealed free how vault size told same_lea
     ∙ ap (with_changes state.vault.image) changes))
     is
 
+pub adds_step : {V : Type 0} (moment : V → ℕ) (since : V → ℕ → Saved → Type 0) (one : Event) (core : CoreView V) (after : V)
+    → Adds moment since core.vault after (IsLeftBefore core) → Adds moment since core.vault after (IsLeftDuring one core)
+adds_step moment since one core after took =
+    took_weaker (moment core.vault) (moment after) (since core.vault) (since after) (IsLeftBefore core) (IsLeftDuring one core) (during_of_before one core) took
+
 -- What a vault's laws say of what a stop leaves.
 
 module _ {V : Type 0} (tells : Bool) (image : V → List (List ℕ)) (version : V → ℕ) (room : V → Option VaultRoom) (doubt : V → Option (List Change)) (now : V → Saved → Type 0)
@@ -119,7 +129,7 @@ module _ {V : Type 0} (tells : Bool) (image : V → List (List ℕ)) (version : 
   adds_during (event.WriteOut lead) after reads writes = writes
   adds_during event.Settle after reads writes = writes
   adds_during other after reads writes =
-      took_weaker (moment core.vault) (moment after) (since core.vault) (since after) (IsLeftBefore core) (IsLeftDuring other core) (during_of_before other core) (adds_reading after (reads tt))
+      adds_step moment since other core after (adds_reading after (reads tt))
 
   -- and one that was not made for want of memory
   pub adds_unmade : (one : Event) (after : V) → (IsReadOnly one → Took (moment core.vault) (moment after) (since core.vault) (since after) (now core.vault))
