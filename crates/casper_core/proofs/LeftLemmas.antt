@@ -74,9 +74,10 @@ left_writing core lead client sound one sealed free how vault size told same_lea
     let left = written_of_moment state known lead one job_is free_is in
     let changes = same_changes core lead client sound one sealed free how vault size told same_lead job is_job commits state stands in
     let at : (array : List (List ℕ)) → IsLeftOf state (Deciding one.lead) array → saved.image ≡ array → IsLeftWithin state (event.WriteOut lead) saved.image =
-    λ array deciding is. inr
-    (record { one = one; job = job_is; free = free_is },
-    subst (λ number. IsLeftOf state (Deciding number) saved.image) same_lead (subst (IsLeftOf state (Deciding one.lead)) (sym is) deciding)) in
+    λ array deciding is. inr (
+      record { one = one; job = job_is; free = free_is },
+      subst (λ number. IsLeftOf state (Deciding number) saved.image) same_lead (subst (IsLeftOf state (Deciding one.lead)) (sym is) deciding),
+    ) in
     ⊎_elim
     (λ old. at state.vault.image left.before (ap (λ (s : Saved). s.image) old ∙ ap (λ (v : VaultState). v.image) (sym stands.parts.vault)))
     (λ new. at (with_changes state.vault.image (changes_of state one)) left.after
@@ -95,7 +96,7 @@ module _ {V : Type 0} (tells : Bool) (image : V → List (List ℕ)) (version : 
     (moment : V → ℕ) (since : V → ℕ → Saved → Type 0)
     (sure_image : (vault : V) (saved : Saved) → IsTrue tells → doubt vault ≡ None → now vault saved → saved ≡ record { image = image vault; version = version vault })
     (either_image : (vault : V) (changes : List Change) (saved : Saved) → IsTrue tells → doubt vault ≡ Some changes → now vault saved
-        → IsOldOrNewImage (image vault) (version vault) changes (version vault + 1) saved)
+    → IsOldOrNewImage (image vault) (version vault) changes (version vault + 1) saved)
     (only_now : (vault : V) (saved : Saved) → IsTrue tells → since vault (moment vault) saved → now vault saved)
     (told : IsTrue tells) (core : CoreView V) (same : core.told ≡ told_by image version room doubt core.vault) where
   -- a stop now leaves what may be found of what the vault tells

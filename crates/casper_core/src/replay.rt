@@ -28,7 +28,7 @@ impl<V: Vault> Core<V> {
             × RoseBy (failures_in said) (V.faults self.old.vault) (V.faults self.new.vault)
             × (self.new.calls ≡ min (self.old.calls + completed_in events.now said) (2 ^ 64 - 1))
             × (IsTrue V.tells → Adds V.moment V.images_since self.old.vault self.new.vault
-              (IsLeftByRun events.now said self.old)) }
+            (IsLeftByRun events.now said self.old)) }
         ensures never_falls { V.faults self.old.vault ≤ V.faults self.new.vault }
         ensures legal { (state : State) → Represents state self.new → HasLegalTrail state self.new }
         ensures unheld { (state : State) → Represents state self.new
