@@ -10,6 +10,8 @@ pub mod HitTurns
 pub mod JobChanges
 pub mod Joins
 pub mod Leaves
+pub mod LeftLemmas
+pub mod LeftRuns
 pub mod Loads
 pub mod Losses
 pub mod Loses

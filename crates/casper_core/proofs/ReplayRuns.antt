@@ -15,7 +15,7 @@ use Rattle.casper_core.specs.Stepping.{Steps, Runs, RoseBy, is_fault, completes,
 
 -- A run of a core, step after step.
 
-happenings_more : (events : List Event) (said : List Answer) (one : Event) (answer : Answer) → length said < length events → one ≡ slice_index_or events (length said) one
+pub happenings_more : (events : List Event) (said : List Answer) (one : Event) (answer : Answer) → length said < length events → one ≡ slice_index_or events (length said) one
     → happenings_of events (said ++ answer ∷ []) ≡ happenings_of events said ++ happening_of one answer ∷ []
 happenings_more [] said one answer below is = absurd (omega (arith, below))
 happenings_more (event ∷ events) [] one answer below is = ap (λ e. happening_of e answer ∷ []) (sym is)

@@ -69,11 +69,11 @@ abbrev pub job_in : {V : Type 0} → CoreView V → ℕ → Option Stabilisation
 job_in core lead = cond (is_unfinished_of lead core.unfinished) None (sealed_in core.hub lead)
 
 module _ {V : Type 0} (core : CoreView V) (lead : ℕ) (client : IsClient lead) (sound : IsSound core) where
-  job_here : (state : State) → Shows state.shared core.hub → state.unfinished ≡ core.unfinished → job_of state lead ≡ job_in core lead
+  pub job_here : (state : State) → Shows state.shared core.hub → state.unfinished ≡ core.unfinished → job_of state lead ≡ job_in core lead
   job_here state shows same =
       ap₂ (λ unfinished all. cond (is_unfinished_of lead unfinished) None (find (λ (one : Stabilisation). (one.lead == lead) && is_sealed one.phase) all)) same shows.stabilisations
 
-  busy_here : (state : State) → Shows state.shared core.hub → state.unfinished ≡ core.unfinished → busy_lead state ≡ busy_in core
+  pub busy_here : (state : State) → Shows state.shared core.hub → state.unfinished ≡ core.unfinished → busy_lead state ≡ busy_in core
   busy_here state shows same =
       ap₂ (λ unfinished all. option_or (option_map (λ (one : Unfinished). one.lead) unfinished)
       (option_map (λ (one : Stabilisation). one.lead) (find (λ (one : Stabilisation). is_doubtful one.phase) all))) same shows.stabilisations
@@ -125,7 +125,7 @@ module _ {V : Type 0} (core : CoreView V) (lead : ℕ) (client : IsClient lead) 
 
       module _ (job : JobView) (is_job : IsJobOf core.hub lead job) (commits : IsCommit core.told (as_changes job.changes) how told) where
         -- the changes are those of the machine
-        same_changes : (state : State) → Represents state core → as_changes job.changes ≡ changes_of state one
+        pub same_changes : (state : State) → Represents state core → as_changes job.changes ≡ changes_of state one
         same_changes state stands =
             let trail = stands.parts.shared.trail in
             changes_of_job state.base (page_count core.hub) (subst (λ pages. IsArray pages state.base) stands.parts.pages stands.image.shape) core.hub.trail job.changes

@@ -2,6 +2,7 @@ pub mod Acting
 pub mod ClientTurns
 pub mod CoreView
 pub mod Decided
+pub mod Leaving
 pub mod Loading
 pub mod Placing
 pub mod Shaped

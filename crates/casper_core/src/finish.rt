@@ -2,6 +2,7 @@ ghost use Rattle.std.specs.Prelude.{◌≡◌, IsTrue};
 ghost use Rattle.casper_words.specs.Count.{FaultCountRose};
 ghost use Rattle.casper_space.specs.declared.answer.Answer.TheVariants as said;
 ghost use Rattle.casper_model.specs.declared.event.Event.TheVariants as event;
+ghost use Rattle.casper_core.specs.Leaving.{Adds, IsLeftBefore};
 ghost use Rattle.casper_core.specs.Loading.{OnlyReads, KeepsVault};
 ghost use Rattle.casper_core.specs.Shaped.{StepsInShape};
 ghost use Rattle.casper_core.specs.Sound.{IsSound};
@@ -45,6 +46,8 @@ impl<V: Vault> Core<V> {
         ensures failed { result ≡ said.Disk
             → FaultCountRose (V.faults self.old.vault) (V.faults self.new.vault) }
         ensures calls { self.new.calls ≡ self.old.calls }
+        ensures images { IsTrue V.tells → Adds V.moment V.images_since self.old.vault self.new.vault
+            (IsLeftBefore self.old) }
         ensures vault { KeepsVault V.size V.faults V.leads_to self.old.vault self.new.vault }
         ensures sound { IsSound self.new }
     {

@@ -1,6 +1,7 @@
 ghost use Rattle.std.specs.Prelude.{◌≡◌, ◌+◌, ◌-◌, ◌^◌, ◌++◌, ◌≤◌, List, IsTrue, OnOk, length, min};
 ghost use Rattle.casper_space.specs.declared.answer.Answer.{Answer as AnAnswer};
 ghost use Rattle.casper_model.specs.State.{State};
+ghost use Rattle.casper_core.specs.Leaving.{Adds, IsLeftByRun};
 ghost use Rattle.casper_core.specs.Loading.{OnlyReads, KeepsVault};
 ghost use Rattle.casper_core.specs.Shaped.{RunsInShape};
 ghost use Rattle.casper_core.specs.Sound.{IsSound};
@@ -25,7 +26,9 @@ impl<V: Vault> Core<V> {
             × (IsTrue V.tells → Runs events.now said self.old self.new)
             × RunsInShape events.now said self.old self.new
             × RoseBy (failures_in said) (V.faults self.old.vault) (V.faults self.new.vault)
-            × (self.new.calls ≡ min (self.old.calls + completed_in events.now said) (2 ^ 64 - 1)) }
+            × (self.new.calls ≡ min (self.old.calls + completed_in events.now said) (2 ^ 64 - 1))
+            × (IsTrue V.tells → Adds V.moment V.images_since self.old.vault self.new.vault
+            (IsLeftByRun events.now said self.old)) }
         ensures never_falls { V.faults self.old.vault ≤ V.faults self.new.vault }
         ensures legal { (state : State) → Represents state self.new → HasLegalTrail state self.new }
         ensures unheld { (state : State) → Represents state self.new

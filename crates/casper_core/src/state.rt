@@ -138,6 +138,8 @@ impl<V: Vault> Core<V> {
     /// How many reads and writes were completed since the core began. The number stays at the greatest of its type.
     pub fn calls(&self) -> u64
         ensures calls { result ≡ self.now.calls }
+        ensures told { self.now.told
+            ≡ told_by V.image V.version V.room V.doubt self.now.vault }
         ensures sound { IsSound self.now }
     {
         self.calls

@@ -4,13 +4,13 @@ ghost use Rattle.casper_space.specs.declared.answer.Answer.TheVariants as said;
 ghost use Rattle.casper_model.specs.Growth.{StepAdds};
 ghost use Rattle.casper_model.specs.State.{State};
 ghost use Rattle.casper_core.specs.Decided.{AnswersByTheHub};
+ghost use Rattle.casper_core.specs.Leaving.{Adds, IsLeftBefore, IsLeftDuring, IfWriting};
 ghost use Rattle.casper_core.specs.Loading.{OnlyReads, KeepsVault};
 ghost use Rattle.casper_core.specs.Shaped.{StepsInShape};
 ghost use Rattle.casper_core.specs.Sound.{IsSound};
 ghost use Rattle.casper_core.specs.Represents.{Represents};
 ghost use Rattle.casper_core.specs.Stepping.{IsBuilt, IsReadOnly, IfWrittenOut, Steps, IsUnchanged, is_fault, completes, counted, HasLegalTrail};
 ghost use Rattle.casper_core.specs.UnheldPages.{UnheldPagesAreRight};
-ghost use Rattle.casper_disk.specs.Disk.{Took};
 
 use crate::Core;
 use casper_disk::Vault;
@@ -59,6 +59,11 @@ impl<V: Vault> Core<V> {
             → OnErr result ((state : State) → Represents state self.old
             → Represents state self.new) }
         ensures calls { self.new.calls ≡ self.old.calls }
+        ensures images { IsTrue V.tells → IfWriting event.now
+            (Adds V.moment V.images_since self.old.vault self.new.vault
+            (IsLeftDuring event.now self.old)) }
+        ensures images_stand { IsTrue V.tells → OnErr result (IfWriting event.now
+            (Adds V.moment V.images_since self.old.vault self.new.vault (IsLeftBefore self.old))) }
         ensures reads { IsReadOnly event.now → OnlyReads V.tells V.size V.image V.version V.room
             V.doubt V.images_now V.moment V.images_since V.faults V.leads_to self.old.vault
             self.new.vault }
@@ -106,9 +111,10 @@ impl<V: Vault> Core<V> {
         ensures legal { (state : State) → Represents state self.new → HasLegalTrail state self.new }
         ensures unheld { (state : State) → Represents state self.new
             → UnheldPagesAreRight state self.new }
-        ensures images { IsReadOnly event.now → IsTrue V.tells →
-            Took (V.moment self.old.vault) (V.moment self.new.vault) (V.images_since self.old.vault)
-            (V.images_since self.new.vault) (V.images_now self.old.vault) }
+        ensures images { IsTrue V.tells → Adds V.moment V.images_since self.old.vault self.new.vault
+            (IsLeftDuring event.now self.old) }
+        ensures images_stand { IsTrue V.tells → OnErr result
+            (Adds V.moment V.images_since self.old.vault self.new.vault (IsLeftBefore self.old)) }
         ensures reads { IsReadOnly event.now → OnlyReads V.tells V.size V.image V.version V.room
             V.doubt V.images_now V.moment V.images_since V.faults V.leads_to self.old.vault
             self.new.vault }

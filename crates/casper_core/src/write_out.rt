@@ -3,12 +3,14 @@ ghost use Rattle.std.specs.List.Sorted.{IsStrictlyIncreasing};
 ghost use Rattle.casper_words.specs.Count.{FaultCountRose};
 ghost use Rattle.casper_space.specs.Changes.{pages_of};
 ghost use Rattle.casper_space.specs.declared.answer.Answer.TheVariants as said;
-ghost use Rattle.casper_disk.specs.Vault.{as_changes};
+ghost use Rattle.casper_disk.specs.Disk.{KeepsImages};
+ghost use Rattle.casper_disk.specs.Vault.{IsOldOrNewImage, as_changes, version_after};
 ghost use Rattle.casper_model.specs.declared.event.Event.TheVariants as event;
 ghost use Rattle.casper_model.specs.declared.outcome.Outcome.TheVariants as ended;
 ghost use Rattle.casper_model.specs.State.{State};
 ghost use Rattle.casper_model.specs.WriteOutStep.{is_unfinished_of};
 ghost use Rattle.casper_core.specs.CoreView.{told_by};
+ghost use Rattle.casper_core.specs.Leaving.{Adds, IsLeftBefore, IsLeftDuring};
 ghost use Rattle.casper_core.specs.Loading.{KeepsVault};
 ghost use Rattle.casper_core.specs.Represents.{Represents};
 ghost use Rattle.casper_core.specs.Shaped.{StepsInShape};
@@ -43,6 +45,10 @@ impl<V: Vault> Core<V> {
             → OnErr result ((state : State) → Represents state self.old
             → Represents state self.new) }
         ensures calls { self.new.calls ≡ self.old.calls }
+        ensures images { IsTrue V.tells → Adds V.moment V.images_since self.old.vault self.new.vault
+            (IsLeftDuring (event.WriteOut lead) self.old) }
+        ensures images_stand { IsTrue V.tells → OnErr result
+            (Adds V.moment V.images_since self.old.vault self.new.vault (IsLeftBefore self.old)) }
         ensures vault { KeepsVault V.size V.faults V.leads_to self.old.vault self.new.vault }
         ensures sound { IsSound self.new }
     {
@@ -101,6 +107,11 @@ fn commit<V: Vault>(
     ensures doubt { IfOk result (λ how. IsSome (V.doubt vault.new) → how ≡ ended.Doubt) }
     ensures failed { IfOk result (λ how. IsTrue (ended_by_fault how)
         → FaultCountRose (V.faults vault.old) (V.faults vault.new)) }
+    ensures images { IsTrue V.tells → Adds V.moment V.images_since vault.old vault.new
+        (IsOldOrNewImage (V.image vault.old) (V.version vault.old) (as_changes changes.now)
+        (version_after (as_changes changes.now) (V.version vault.old))) }
+    ensures images_stand { IsTrue V.tells → OnErr result (KeepsImages (V.moment vault.old)
+        (V.moment vault.new) (V.images_since vault.old) (V.images_since vault.new)) }
     ensures vault { KeepsVault V.size V.faults V.leads_to vault.old vault.new }
 {
     let _mark: Option<Mark> = None;
