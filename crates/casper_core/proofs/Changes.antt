@@ -1,4 +1,4 @@
-use Rattle.std.proofs.Common.{◌≡◌, ℕ, List, refl, sym, ◌∙◌}
+use Rattle.std.proofs.Common.{◌≡◌, ℕ, refl, sym, ◌∙◌}
 use Rattle.std.specs.Prelude.{Option, None, Some, IsSome}
 use Rattle.casper_cache.specs.Own as cache
 use Rattle.casper_model.specs.Shared.{Shared}
@@ -9,7 +9,7 @@ use Rattle.casper_hub.specs.GoesOn.{KeepsClient}
 use Rattle.casper_hub.specs.HubView.{HubView, page_count}
 use Rattle.casper_hub.specs.Shows.{Shows}
 use Rattle.casper_hub.specs.Sound.{IsSound as Whole}
-use Rattle.casper_hub.specs.Words.{FramesAreRight, CacheIsRight}
+use Rattle.casper_hub.specs.Words.{FramesAreRight}
 use Rattle.casper_hub.proofs.Relying.{live_while_kept, pages_while_kept, owns_while_kept, right_while_kept}
 use Rattle.casper_core.specs.CoreView.{CoreView, cache_at}
 use Rattle.casper_core.specs.Placing.{changed}

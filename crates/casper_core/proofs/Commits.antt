@@ -1,6 +1,6 @@
-use Rattle.std.proofs.Common.{◌≡◌, ◌⊎◌, ◌↔◌, ◌==◌, ◌+◌, ℕ, List, [], ◌∷◌, Bool, true, false, cond, length, refl, sym, ap, ◌∙◌, subst, ⊎_elim}
+use Rattle.std.proofs.Common.{◌≡◌, ◌⊎◌, ◌↔◌, ℕ, List, [], ◌∷◌, Bool, true, false, cond, length, refl, sym, ap, ◌∙◌, ⊎_elim}
 use Rattle.std.specs.Prelude.{Option, None, Some, IsSome, IsTrue, nat_lt, option_map, Result, Ok, Err, IsErrOf, IsOkUnless, IfOk, OnOk, OnErr}
-use Rattle.casper_space.specs.Changes.{Change, VaultRoom, last_version, pages_of, need_of, free_of, room_after, with_changes}
+use Rattle.casper_space.specs.Changes.{Change, VaultRoom, pages_of, need_of, free_of, with_changes}
 use Rattle.casper_disk.specs.declared.vault.CommitFault.{CommitFault}
 use Rattle.casper_disk.specs.declared.vault.CommitFault.TheVariants as fault
 use Rattle.casper_disk.specs.Vault.{Frames, as_changes, version_after, room_with, is_worn, lacking, changes_in, version_settled, room_settled}

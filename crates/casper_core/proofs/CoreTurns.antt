@@ -9,11 +9,11 @@ use Rattle.casper_cache.specs.Own as cache
 use Rattle.casper_model.specs.declared.event.Event.{Event}
 use Rattle.casper_model.specs.declared.event.Event.TheVariants as event
 use Rattle.casper_model.specs.Shared.{is_live}
-use Rattle.casper_model.specs.Outside.{Outside, NothingFailed}
+use Rattle.casper_model.specs.Outside.{Outside}
 use Rattle.casper_model.specs.Rights.{NamesClients}
-use Rattle.casper_model.specs.State.{State, own_at}
+use Rattle.casper_model.specs.State.{State}
 use Rattle.casper_model.specs.Step.{step, read_turn, write_turn, acquire_turn, serve_turn, stabilise_turn, lose_turn}
-use Rattle.casper_model.specs.Turn.{guarded, within, is_in_range, are_in_range}
+use Rattle.casper_model.specs.Turn.{within, is_in_range, are_in_range}
 use Rattle.casper_model.specs.Vault.{VaultState}
 use Rattle.casper_hub.specs.HubView.{HubView}
 use Rattle.casper_hub.specs.Owned.{own_of}

@@ -51,7 +51,7 @@ use Rattle.casper_hub.specs.HubView.{HubView}
 use Rattle.casper_hub.proofs.Showing.{free_shown, liveness_shown}
 use Rattle.casper_core.specs.Acting.{outside_of, outside_in}
 use Rattle.casper_core.specs.CoreView.{CoreView}
-use Rattle.casper_core.specs.Decided.{decided_of, decided, is_before_turn, is_of_no_turn, IsOfTurn, AnswersByTheHub}
+use Rattle.casper_core.specs.Decided.{decided_of, decided, is_before_turn, is_of_no_turn, AnswersByTheHub}
 use Rattle.casper_core.specs.Shaped.{RepresentsButWords, StepsInShape, outcome_told, read_with, written_with, written_unless, write_out_with, step_with}
 use Rattle.casper_core.specs.Sound.{IsSound}
 use Rattle.casper_core.specs.Stepping.{IsBuilt, IfWrittenOut, is_fault}

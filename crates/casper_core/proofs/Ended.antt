@@ -1,5 +1,5 @@
-use Rattle.std.proofs.Common.{◌≡◌, ◌==◌, ◌||◌, ℕ, List, [], ◌∷◌, Bool, true, false, cond, true≢false, refl, sym, ap, ◌∙◌, subst}
-use Rattle.std.specs.Prelude.{Option, None, Some, IsSome, is_some, option_map, find, Contains, unwrap_or, Result, Ok, Err, OnOk, OnErr}
+use Rattle.std.proofs.Common.{◌≡◌, ◌==◌, ◌||◌, ℕ, List, [], ◌∷◌, Bool, true, false, cond, refl, sym, ap, ◌∙◌, subst}
+use Rattle.std.specs.Prelude.{Option, None, Some, is_some, option_map, find, Contains, unwrap_or, Result, Ok, Err, OnOk, OnErr}
 use Rattle.std.specs.List.{list_any}
 use Rattle.std.specs.Result.{is_err}
 use Rattle.std.proofs.lemmas.Bool.{eqb-true}
@@ -15,10 +15,9 @@ use Rattle.casper_turns.proofs.FinishFrozen.{sealed_only}
 use Rattle.casper_turns.proofs.FrozenChanges.{one_of_lead}
 use Rattle.casper_laws.specs.FrozenLaws.{ended_in_doubt}
 use Rattle.casper_laws.proofs.FinishFrozen.{finish_well}
-use Rattle.casper_hub.specs.Committing.{doubtful_in, IsHeldBy}
+use Rattle.casper_hub.specs.Committing.{IsHeldBy}
 use Rattle.casper_hub.specs.GoesOn.{KeepsClient}
 use Rattle.casper_hub.specs.HubView.{HubView}
-use Rattle.casper_hub.specs.Shows.{Shows}
 use Rattle.casper_hub.specs.Sound.{IsSound as Whole}
 use Rattle.casper_hub.specs.Turns.{IsChange}
 use Rattle.casper_hub.proofs.StandsFor.{stands_for}

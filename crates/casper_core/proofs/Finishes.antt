@@ -1,24 +1,19 @@
-use Rattle.std.proofs.Common.{◌≡◌, ◌==◌, ℕ, List, Bool, true, false, cond, map, not, true≢false, refl, sym, ap, ap₂, ◌∙◌, subst}
-use Rattle.std.specs.Prelude.{Option, None, Some, IsSome, IsTrue, is_some, option_map, find, Contains, unwrap_or}
+use Rattle.std.proofs.Common.{◌≡◌, ◌==◌, ℕ, List, Bool, true, false, cond, refl, sym, ap, ap₂, ◌∙◌, subst}
+use Rattle.std.specs.Prelude.{Option, None, Some, find, unwrap_or}
 use Rattle.std.proofs.lemmas.Option.{none-some}
 use Rattle.casper_words.specs.Crew.{IsClient}
-use Rattle.casper_space.specs.declared.answer.Answer.{Answer}
 use Rattle.casper_space.specs.declared.answer.Answer.TheVariants as answer
 use Rattle.casper_model.specs.declared.event.Event.TheVariants as event
 use Rattle.casper_model.specs.declared.outcome.Finished.{Finished}
 use Rattle.casper_model.specs.declared.outcome.Outcome.{Outcome}
-use Rattle.casper_model.specs.declared.outcome.Outcome.TheVariants as outcome
 use Rattle.casper_model.specs.Answers.{of_finish}
-use Rattle.casper_model.specs.Both.{Changed}
 use Rattle.casper_model.specs.Finish.{finish, settled, doubtful_of}
-use Rattle.casper_model.specs.Outside.{Outside, NothingFailed, SettleFailed, is_settle_failed}
-use Rattle.casper_model.specs.Shared.{Shared}
+use Rattle.casper_model.specs.Outside.{Outside, NothingFailed, SettleFailed}
 use Rattle.casper_model.specs.Stabilisation.{Stabilisation, is_doubtful}
 use Rattle.casper_model.specs.State.{State, Unfinished}
-use Rattle.casper_model.specs.Step.{step}
 use Rattle.casper_model.specs.Turn.{Turn, guarded}
 use Rattle.casper_model.specs.Vault.{VaultState, settled_vault}
-use Rattle.casper_model.specs.WriteOutStep.{finish_step, finish_turn, settle_step, settle_turn, of_settled}
+use Rattle.casper_model.specs.WriteOutStep.{finish_step, finish_turn, settle_step, of_settled}
 use Rattle.casper_hub.specs.Committing.{doubtful_in}
 use Rattle.casper_hub.specs.GoesOn.{KeepsClient}
 use Rattle.casper_hub.specs.HubView.{HubView}
@@ -28,13 +23,13 @@ use Rattle.casper_hub.specs.Words.{FramesAreRight}
 use Rattle.casper_core.specs.Acting.{outside_in, outside_settled}
 use Rattle.casper_core.specs.CoreView.{CoreView}
 use Rattle.casper_core.specs.Placing.{changed}
-use Rattle.casper_core.specs.Represents.{HasPartsOf, Represents}
-use Rattle.casper_core.specs.Shaped.{RepresentsButWords, IsMade, StepsInShape, step_with}
+use Rattle.casper_core.specs.Represents.{HasPartsOf}
+use Rattle.casper_core.specs.Shaped.{RepresentsButWords, StepsInShape}
 use Rattle.casper_core.specs.Sound.{IsSound}
-use Rattle.casper_core.specs.Stepping.{IsAnswered, Steps}
+use Rattle.casper_core.specs.Stepping.{Steps}
 use Rattle.casper_core.specs.WritingOut.{ended_of}
 use Rattle.casper_core.proofs.Changes.{shape_changed, parts_changed}
-use Rattle.casper_core.proofs.StepParts.{answered_by, answered_same, made_same, passed_by, refused_by}
+use Rattle.casper_core.proofs.StepParts.{answered_by, answered_same, made_same}
 
 -- A finish and a settle of a core are the machine's.
 

@@ -1,5 +1,5 @@
-use Rattle.std.proofs.Common.{◌≡◌, ◌<◌, ℕ, List, [], ◌∷◌, map, length, refl, sym, ap, ◌∙◌, subst}
-use Rattle.std.specs.Prelude.{slice_index_or, Contains, All}
+use Rattle.std.proofs.Common.{◌≡◌, ◌<◌, ℕ, List, [], ◌∷◌, map, refl, sym, ap, ◌∙◌, subst}
+use Rattle.std.specs.Prelude.{slice_index_or, Contains}
 use Rattle.std.proofs.lemmas.List.{ext_get_or}
 use Rattle.casper_trail.specs.declared.item.Item.{Item}
 use Rattle.casper_trail.specs.Image.{array_of}

@@ -1,9 +1,9 @@
-use Rattle.std.proofs.Common.{◌≡◌, ◌⊎◌, ℕ, ◌+◌, ◌≤◌, List, Bool, refl, sym, ap, ◌∙◌, subst, ⊎_elim, inl, inr}
+use Rattle.std.proofs.Common.{◌≡◌, ℕ, ◌+◌, List, Bool, refl, sym, ap, ◌∙◌, subst, ⊎_elim, inl, inr}
 use Rattle.std.specs.Prelude.{Option, None, Some, IsTrue, Result, Ok, Err, OnErr}
 use Rattle.casper_words.specs.Crew.{IsClient}
 use Rattle.casper_space.specs.Changes.{Change, VaultRoom, with_changes}
 use Rattle.casper_disk.specs.Disk.{KeepsImages, Took}
-use Rattle.casper_disk.specs.Vault.{Saved, IsOldOrNewImage, as_changes, changes_in, version_settled, version_after}
+use Rattle.casper_disk.specs.Vault.{Saved, IsOldOrNewImage, as_changes, changes_in, version_settled}
 use Rattle.casper_disk.proofs.TookLemmas.{took_none, took_standing, took_weaker}
 use Rattle.casper_frozen.specs.Jobs.{JobView}
 use Rattle.casper_hub.specs.Jobs.{IsJobOf}
@@ -15,13 +15,11 @@ use Rattle.casper_model.specs.State.{State}
 use Rattle.casper_model.specs.Vault.{VaultState}
 use Rattle.casper_model.specs.WriteOutStep.{job_of, busy_lead, changes_of}
 use Rattle.casper_sessions.specs.Found.{Found, MayBeFound, MayBeFoundWith}
-use Rattle.casper_sessions.specs.Moments.{Deciding, IsLeftAt, moment_of}
-use Rattle.casper_sessions.specs.Within.{IsLeftOf, IsLeftWithin, IsWritingOut}
+use Rattle.casper_sessions.specs.Moments.{Deciding, moment_of}
+use Rattle.casper_sessions.specs.Within.{IsLeftOf, IsLeftWithin}
 use Rattle.casper_sessions.proofs.Stops.{IsKnown, found_of_moment, written_of_moment}
 use Rattle.casper_core.specs.CoreView.{CoreView, told_by}
 use Rattle.casper_core.specs.Leaving.{Adds, IsLeftBefore, IsLeftDuring, IfWriting}
-use Rattle.casper_core.specs.Loading.{OnlyReads}
-use Rattle.casper_core.specs.Represents.{Represents}
 use Rattle.casper_core.specs.Sound.{IsSound}
 use Rattle.casper_core.specs.Stepping.{IsReadOnly}
 use Rattle.casper_core.specs.WritingOut.{busy_in, IsCommit}

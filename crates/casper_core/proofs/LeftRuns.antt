@@ -4,7 +4,6 @@ use Rattle.casper_space.specs.declared.answer.Answer.{Answer}
 use Rattle.casper_disk.specs.Vault.{Saved}
 use Rattle.casper_disk.proofs.TookLemmas.{took_weaker, took_then}
 use Rattle.casper_model.specs.declared.event.Event.{Event}
-use Rattle.casper_model.specs.declared.event.Event.TheVariants as event
 use Rattle.casper_model.specs.Run.{Happening, state_after}
 use Rattle.casper_model.specs.State.{State}
 use Rattle.casper_model.specs.Step.{step}

@@ -1,19 +1,16 @@
 use Rattle.std.proofs.Common.{◌≡◌, ℕ, Bool, List, refl, ap}
-use Rattle.std.specs.Prelude.{IsTrue}
-use Rattle.casper_space.specs.declared.answer.Answer.{Answer}
 use Rattle.casper_cache.specs.Own as cache
 use Rattle.casper_model.specs.declared.reply.Loss.{Loss}
 use Rattle.casper_model.specs.Answers.{of_lose}
 use Rattle.casper_model.specs.Loss.{lose}
-use Rattle.casper_model.specs.State.{State, own_at, with_shared}
+use Rattle.casper_model.specs.State.{State}
 use Rattle.casper_model.specs.Step.{lose_turn}
 use Rattle.casper_hub.specs.GoesOn.{KeepsClient, CommitsNothing}
 use Rattle.casper_hub.specs.HubView.{HubView}
 use Rattle.casper_hub.specs.Owned.{Owns, own_of}
-use Rattle.casper_hub.specs.Relying.{OwnsWhileKept, RightWhileKept}
 use Rattle.casper_hub.specs.Sound.{IsSound}
 use Rattle.casper_hub.specs.Turns.{IsChange}
-use Rattle.casper_hub.specs.Words.{FramesAreRight, CacheIsRight}
+use Rattle.casper_hub.specs.Words.{FramesAreRight}
 use Rattle.casper_hub.proofs.Relying.{owns_while_kept, right_while_kept}
 use Rattle.casper_core.specs.Acting.{IsTurnResult, KeepsHubRight, Holds}
 use Rattle.casper_core.specs.Shaped.{IsShape}

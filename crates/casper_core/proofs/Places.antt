@@ -1,19 +1,8 @@
-use Rattle.std.proofs.Common.{◌≡◌, ◌≢◌, ◌⊎◌, ◌<◌, ℕ, List, [], ◌∷◌, ◌++◌, length, length-set, get_or-set_same, get_or-set_other, refl, sym, ap, ◌∙◌, subst, ⊎_elim, arith}
+use Rattle.std.proofs.Common.{◌≡◌, ◌≢◌, ◌⊎◌, ◌<◌, ℕ, length, length-set, get_or-set_same, get_or-set_other, sym, ap, ◌∙◌, subst, ⊎_elim, arith}
 use Rattle.std.specs.Prelude.{Option, None, Some, is_some}
-use Rattle.std.specs.List.{list_any}
 use Rattle.std.proofs.lemmas.Bool.{cases_eq}
 use Rattle.casper_words.specs.Crew.{IsClient}
-use Rattle.casper_words.specs.declared.call.Call.{Call}
-use Rattle.casper_trail.specs.declared.entry.Entry.{Entry}
-use Rattle.casper_trail.specs.declared.item.Item.{Item}
-use Rattle.casper_trail.specs.TrailView.{is_commit}
-use Rattle.casper_trail.specs.Parts.{as_items, stable_entries}
-use Rattle.casper_trail.specs.Calls.{entries_by}
-use Rattle.casper_trail.specs.Value.{value_of}
-use Rattle.casper_trail.proofs.Images.{stable_without_commit}
 use Rattle.casper_cache.specs.Own as cache
-use Rattle.casper_model.specs.Acquire.{touches_by}
-use Rattle.casper_model.specs.Growth.{AddsOwn}
 use Rattle.casper_model.specs.State.{State, own_at}
 use Rattle.casper_model.specs.Turn.{Turn}
 use Rattle.casper_model.specs.Vault.{VaultState}
@@ -24,7 +13,6 @@ use Rattle.casper_hub.proofs.Relying.{live_while_kept, pages_while_kept, owns_wh
 use Rattle.casper_hub.specs.GoesOn.{KeepsClient}
 use Rattle.casper_core.specs.Acting.{IsTurnResult}
 use Rattle.casper_core.specs.CoreView.{CoreView, cache_at}
-use Rattle.casper_core.specs.Loading.{AreStored}
 use Rattle.casper_core.specs.Placing.{placed, IsPlaced, IsRight}
 use Rattle.casper_core.specs.Shaped.{RepresentsButWords}
 use Rattle.casper_core.specs.Sound.{Keeps, IsSound}

@@ -1,4 +1,4 @@
-use Rattle.std.proofs.Common.{◌≡◌, ◌⊎◌, ℕ, ◌+◌, List, refl, sym, ap, ◌∙◌, ⊎_elim, inl, inr}
+use Rattle.std.proofs.Common.{◌≡◌, ℕ, ◌+◌, List, refl, sym, ap, ◌∙◌, ⊎_elim, inl, inr}
 use Rattle.std.specs.Prelude.{Option, None, Some, is_some}
 use Rattle.casper_space.specs.Changes.{Change, VaultRoom}
 use Rattle.casper_disk.specs.Vault.{Saved, IsOldOrNewImage}

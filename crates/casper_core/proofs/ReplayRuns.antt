@@ -4,7 +4,6 @@ use Rattle.std.proofs.lemmas.Bool.{and_from, and_parts}
 use Rattle.std.proofs.lemmas.List.Elements.{Contains-get_or}
 use Rattle.casper_words.specs.Count.{FaultCountRose}
 use Rattle.casper_space.specs.declared.answer.Answer.{Answer}
-use Rattle.casper_space.specs.declared.answer.Answer.TheVariants as answer
 use Rattle.casper_model.specs.declared.event.Event.{Event}
 use Rattle.casper_model.specs.State.{State}
 use Rattle.casper_model.specs.Step.{step}

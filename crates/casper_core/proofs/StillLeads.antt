@@ -1,4 +1,4 @@
-use Rattle.std.proofs.Common.{◌≡◌, ℕ, List, Bool, true, false, true≢false, refl, sym, ap, ◌∙◌, subst}
+use Rattle.std.proofs.Common.{◌≡◌, ℕ, true, false, true≢false, refl, sym, ap, ◌∙◌, subst}
 use Rattle.std.specs.Prelude.{Option, None, Some, is_some, Contains}
 use Rattle.casper_model.specs.Stabilisation.{Stabilisation, Phase, Gathering, Sealed, Doubtful, is_gathering, is_sealed, is_doubtful}
 use Rattle.casper_model.specs.State.{Unfinished}
@@ -7,7 +7,7 @@ use Rattle.casper_turns.proofs.Lists.{find_found, find_some}
 use Rattle.casper_hub.specs.Committing.{doubtful_in}
 use Rattle.casper_hub.specs.HubView.{HubView}
 use Rattle.casper_hub.specs.Sound.{IsSound}
-use Rattle.casper_hub.specs.GoesOn.{ComesFrom, CommitsNothing}
+use Rattle.casper_hub.specs.GoesOn.{CommitsNothing}
 use Rattle.casper_hub.proofs.Relying.{from_sound}
 use Rattle.casper_hub.proofs.StandsFor.{stands_for}
 use Rattle.casper_core.specs.Sound.{IsSealedIn, IsInDoubt}

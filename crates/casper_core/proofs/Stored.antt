@@ -1,23 +1,20 @@
-use Rattle.std.proofs.Common.{◌≡◌, ◌<◌, ℕ, List, [], Bool, true, false, length, refl, sym, ap, ◌∙◌, subst, arith, true≢false}
+use Rattle.std.proofs.Common.{◌≡◌, ◌<◌, ℕ, List, Bool, true, false, refl, sym, ap, ◌∙◌, subst, true≢false}
 use Rattle.std.specs.Prelude.{Option, None, Some, is_some}
-use Rattle.casper_words.specs.Crew.{has_member}
-use Rattle.casper_trail.specs.declared.entry.Entry.{Entry}
 use Rattle.casper_trail.specs.Association.{association_of}
-use Rattle.casper_trail.specs.Image.{array_of, image_of, image_with}
+use Rattle.casper_trail.specs.Image.{image_of, image_with}
 use Rattle.casper_trail.specs.Modified.{is_modified}
 use Rattle.casper_trail.specs.Parts.{stable_entries, stable_or_open_of}
-use Rattle.casper_trail.specs.Value.{IsArray, word_at, value_of}
+use Rattle.casper_trail.specs.Value.{IsArray}
 use Rattle.casper_trail.proofs.Pages.{image_of_other_page, unmodified_page}
 use Rattle.casper_trail.proofs.Values.{array_keeps_shape, array_has_values}
 use Rattle.casper_disk.specs.Vault.{page_at}
 use Rattle.casper_model.specs.declared.outcome.Outcome.{Outcome}
 use Rattle.casper_model.specs.declared.outcome.Outcome.TheVariants as outcome
 use Rattle.casper_model.specs.State.{State, Unfinished}
-use Rattle.casper_laws.specs.StoredImage.{HasStoredImage, image_due, image_by}
+use Rattle.casper_laws.specs.StoredImage.{image_due, image_by}
 use Rattle.casper_hub.specs.HubView.{HubView, page_count, frame_in}
-use Rattle.casper_hub.specs.Shows.{Shows}
 use Rattle.casper_hub.specs.Sound.{IsSound}
-use Rattle.casper_hub.specs.Words.{AreWords, IsStored}
+use Rattle.casper_hub.specs.Words.{IsStored}
 use Rattle.casper_core.specs.CoreView.{CoreView}
 use Rattle.casper_core.specs.Loading.{AreStored}
 use Rattle.casper_core.specs.Represents.{Represents}

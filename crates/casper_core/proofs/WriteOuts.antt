@@ -1,5 +1,5 @@
-use Rattle.std.proofs.Common.{◌≡◌, ◌<◌, ◌==◌, ◌&&◌, ℕ, List, [], ◌∷◌, Bool, true, false, cond, map, true≢false, refl, sym, ap, ap₂, ◌∙◌, subst}
-use Rattle.std.specs.Prelude.{Option, None, Some, IsTrue, IsSome, find, is_some, option_map, Contains, slice_index_or, unwrap_or}
+use Rattle.std.proofs.Common.{◌≡◌, ◌<◌, ◌==◌, ◌&&◌, ℕ, List, [], Bool, true, false, cond, map, true≢false, refl, sym, ap, ap₂, ◌∙◌, subst}
+use Rattle.std.specs.Prelude.{Option, None, Some, IsSome, find, is_some, option_map, Contains, slice_index_or, unwrap_or}
 use Rattle.std.specs.Option.{option_or}
 use Rattle.std.proofs.lemmas.Bool.{and_parts, eqb-true}
 use Rattle.std.proofs.lemmas.List.Elements.{All-contains}
@@ -10,7 +10,6 @@ use Rattle.casper_trail.specs.Image.{array_of}
 use Rattle.casper_trail.specs.Parts.{live_entries}
 use Rattle.casper_trail.specs.Value.{IsArray}
 use Rattle.casper_space.specs.Changes.{Change, pages_of}
-use Rattle.casper_space.specs.declared.answer.Answer.{Answer}
 use Rattle.casper_space.specs.declared.answer.Answer.TheVariants as answer
 use Rattle.casper_disk.specs.Vault.{as_changes}
 use Rattle.casper_model.specs.declared.event.Event.TheVariants as event
@@ -18,7 +17,6 @@ use Rattle.casper_model.specs.declared.outcome.Outcome.{Outcome}
 use Rattle.casper_model.specs.declared.outcome.Outcome.TheVariants as outcome
 use Rattle.casper_model.specs.Answers.{of_write_out}
 use Rattle.casper_model.specs.Frozen.{pages_modified_by}
-use Rattle.casper_model.specs.Outside.{Outside}
 use Rattle.casper_model.specs.Stabilisation.{Stabilisation, is_sealed, is_doubtful}
 use Rattle.casper_model.specs.State.{State, Unfinished}
 use Rattle.casper_model.specs.Step.{step}
@@ -27,10 +25,9 @@ use Rattle.casper_model.specs.Vault.{VaultState, Written, commit}
 use Rattle.casper_model.specs.WriteOutStep.{job_of, busy_lead, changes_of, is_unfinished_of, write_out_step, written_out}
 use Rattle.casper_laws.specs.FrozenLaws.{ended_in_doubt}
 use Rattle.casper_hub.specs.Committing.{doubtful_in}
-use Rattle.casper_hub.specs.HubView.{HubView, page_count}
+use Rattle.casper_hub.specs.HubView.{page_count}
 use Rattle.casper_hub.specs.Jobs.{sealed_in, IsJobOf}
 use Rattle.casper_hub.specs.Shows.{Shows}
-use Rattle.casper_hub.specs.Words.{FramesAreRight}
 use Rattle.casper_hub.proofs.Relying.{kept_itself}
 use Rattle.casper_hub.proofs.StandsFor.{stands_for}
 use Rattle.casper_frozen.specs.Jobs.{JobView}
@@ -39,9 +36,9 @@ use Rattle.casper_core.specs.Acting.{outside_in, outside_written}
 use Rattle.casper_core.specs.CoreView.{CoreView}
 use Rattle.casper_core.specs.Placing.{changed}
 use Rattle.casper_core.specs.Represents.{HasPartsOf, Represents}
-use Rattle.casper_core.specs.Shaped.{RepresentsButWords, IsMade, StepsInShape, outcome_told, written_with, written_unless, write_out_with, step_with}
+use Rattle.casper_core.specs.Shaped.{RepresentsButWords, StepsInShape, outcome_told, written_with, written_unless, write_out_with, step_with}
 use Rattle.casper_core.specs.Sound.{IsSound, IsSealedIn}
-use Rattle.casper_core.specs.Stepping.{IsAnswered, Steps}
+use Rattle.casper_core.specs.Stepping.{Steps}
 use Rattle.casper_core.specs.WritingOut.{busy_in, outside_ended, IsCommit}
 use Rattle.casper_core.proofs.Changes.{sound_changed, shape_changed, parts_changed}
 use Rattle.casper_core.proofs.JobChanges.{map_map, changes_of_job}

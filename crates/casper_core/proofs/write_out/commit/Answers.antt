@@ -1,6 +1,5 @@
 use Rattle.std.proofs.Common.{ap, ◌∙◌, subst}
-use Rattle.std.specs.Prelude.{Err, Ok}
-use Rattle.casper_disk.specs.declared.vault.CommitFault.TheVariants as fault
+use Rattle.std.specs.Prelude.{Err}
 use Rattle.casper_core.specs.CoreView.{told_by}
 use Rattle.casper_core.proofs.Commits.{Ended, ended_ok, ended_full, ended_disk, ended_doubt}
 use Rattle.casper_core.proofs.write_out.commit.Goals as goal

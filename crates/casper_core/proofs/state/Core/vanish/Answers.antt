@@ -1,4 +1,4 @@
-use Rattle.std.proofs.Common.{◌<◌, ◌∙◌, sym, ap, subst, arith, refl}
+use Rattle.std.proofs.Common.{◌<◌, sym, subst, arith, refl}
 use Rattle.std.specs.Prelude.{Some, None, length, slice_set}
 use Rattle.casper_words.specs.Crew.{IsClient}
 use Rattle.casper_space.specs.declared.answer.Answer.TheVariants as answer

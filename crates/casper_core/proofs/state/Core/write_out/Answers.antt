@@ -5,7 +5,6 @@ use Rattle.casper_space.specs.Changes.{pages_of}
 use Rattle.casper_disk.specs.Disk.{KeepsImages}
 use Rattle.casper_disk.specs.Vault.{IsOldOrNewImage, as_changes, version_after}
 use Rattle.casper_disk.proofs.TookLemmas.{took_weaker}
-use Rattle.casper_frozen.specs.Jobs.{JobView}
 use Rattle.casper_model.specs.declared.event.Event.TheVariants as event
 use Rattle.casper_model.specs.State.{Unfinished}
 use Rattle.casper_model.specs.WriteOutStep.{is_unfinished_of}
