@@ -1,4 +1,4 @@
-use Rattle.std.proofs.Common.{◌≡◌, ◌+◌, ◌-◌, ◌^◌, ◌<◌, ◌≤◌, arith, ℕ, Bool, true, false, cond, List, [], ◌∷◌, ◌++◌, Option, Some, None, ap, ap₂, sym, subst, ◌∙◌, refl, length, length-append, true≢false}
+use Rattle.std.proofs.Common.{◌≡◌, ◌+◌, ◌-◌, ◌^◌, ◌≤◌, arith, ℕ, Bool, true, false, cond, List, [], ◌∷◌, ◌++◌, Option, Some, None, ap, ap₂, sym, subst, ◌∙◌, refl, length, length-append, true≢false}
 use Rattle.std.specs.Prelude.{IsTrue, min, is_some, option_to_list}
 use Rattle.std.specs.List.{cons_option}
 use Rattle.std.proofs.lemmas.List.{append-nil}
@@ -15,7 +15,7 @@ use Rattle.casper_model.specs.Vault.{VaultState}
 use Rattle.casper_hub.specs.Shows.{Shows}
 use Rattle.casper_sessions.specs.Chain.{IsFound}
 use Rattle.casper_core.specs.CoreView.{CoreView, cache_at}
-use Rattle.casper_core.specs.Shaped.{RepresentsButWords, StepsInShape, IsMade, step_with}
+use Rattle.casper_core.specs.Shaped.{RepresentsButWords, StepsInShape, IsMade}
 use Rattle.casper_core.specs.Represents.{Represents, own_part}
 use Rattle.casper_core.specs.Sound.{IsSound}
 use Rattle.casper_core.specs.Stepping.{Steps, IsAnswered, IsUnchanged, is_fault, completes, counted}
@@ -26,7 +26,7 @@ use Rattle.casper_app.specs.declared.past.Past.{Past}
 use Rattle.casper_app.specs.declared.schedule.Asked.{Asked}
 use Rattle.casper_app.specs.declared.schedule.Asked.TheVariants as asks
 use Rattle.casper_app.specs.declared.sessions.Sessions.{Sessions}
-use Rattle.casper_app.specs.Play.{Rules, Standing, Takes, Plays, begun, begun_again, past_with, added, by_machine, in_shape, calls_in, completes_call, summary_of}
+use Rattle.casper_app.specs.Play.{Rules, Standing, Takes, Plays, begun_again, past_with, added, by_machine, in_shape, calls_in, completes_call, summary_of}
 use Rattle.casper_app.specs.Carrying.{StandsBy, TakesBy, PlaysBy, StaysBy, MakesStep, MakesNone, Carries, summary_in}
 use Rattle.casper_app.specs.Comes.{TellsOf, TellsButVersion}
 use Rattle.casper_app.specs.Lines.{asked_of_line, asked_in}

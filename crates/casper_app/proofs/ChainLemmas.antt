@@ -1,5 +1,5 @@
-use Rattle.std.proofs.Common.{◌≡◌, ℕ, ◌+◌, ◌-◌, ◌^◌, ◌≤◌, Bool, true, List, [], ◌∷◌, ◌++◌, append_assoc, length, length-append, refl, sym, ap, ap₂, subst, ◌∙◌, cond, arith, map}
-use Rattle.std.specs.Prelude.{IsTrue, min}
+use Rattle.std.proofs.Common.{◌≡◌, ℕ, ◌+◌, true, List, [], ◌∷◌, ◌++◌, append_assoc, length, length-append, refl, sym, ap, ap₂, subst, ◌∙◌, cond, arith, map}
+use Rattle.std.specs.Prelude.{IsTrue}
 use Rattle.std.proofs.lemmas.Bool.{and_parts, and_from}
 use Rattle.std.proofs.lemmas.List.{append-nil}
 use Rattle.std.proofs.lemmas.List.Sums.{sum_by-append}
@@ -21,8 +21,8 @@ use Rattle.casper_turns.proofs.GoodRuns.{each_step_is_good, every_run_is_good}
 use Rattle.casper_app.specs.declared.past.Past.{Past}
 use Rattle.casper_app.specs.declared.schedule.Asked.{Asked}
 use Rattle.casper_app.specs.declared.schedule.Asked.TheVariants as asks
-use Rattle.casper_app.specs.Play.{Standing, Takes, Plays, begun, begun_again, added, past_with, by_machine, no_past}
-use Rattle.casper_app.specs.Chain.{Played, PlayedSessionsAreAChain, IsPlayed, ArePlayed, IsOfSessions, PlaysAreSessions, AllAskOfClients, all_items, asked_over, given_over, found_after}
+use Rattle.casper_app.specs.Play.{Standing, Plays, begun, begun_again, added, past_with, by_machine, no_past}
+use Rattle.casper_app.specs.Chain.{Played, PlayedSessionsAreAChain, ArePlayed, PlaysAreSessions, AllAskOfClients, all_items, asked_over, given_over, found_after}
 use Rattle.casper_app.specs.Session.{IsSession, state_behind, trail_behind}
 use Rattle.casper_app.proofs.LimitLemmas.{HasLimits, limits_stay}
 

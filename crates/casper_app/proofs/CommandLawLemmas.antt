@@ -1,4 +1,4 @@
-use Rattle.std.proofs.Common.{◌≡◌, ◌≢◌, ◌⊎◌, ◌≤◌, ◌<◌, ◌^◌, ◌&&◌, ◌||◌, ◌++◌, ◌∙◌, ℕ, Bool, true, false, cond, List, [], ◌∷◌, Option, Some, None, Result, Ok, Err, length, nat_eq, nat_le, codes, refl, sym, ap, subst, inl, inr, arith, drop}
+use Rattle.std.proofs.Common.{◌≡◌, ◌≢◌, ◌⊎◌, ◌≤◌, ◌^◌, ◌&&◌, ◌||◌, ◌++◌, ◌∙◌, ℕ, Bool, true, false, cond, List, [], ◌∷◌, Option, Some, None, Result, Ok, Err, length, nat_eq, nat_le, codes, refl, sym, ap, subst, inl, inr, arith, drop}
 use Rattle.std.specs.Prelude.{Contains}
 use Rattle.std.specs.Fmt.{decimal}
 use Rattle.std.specs.List.{starts_with, list_any}
@@ -9,11 +9,10 @@ use Rattle.std.proofs.lemmas.Bool.Decides.{Decides-eqb}
 use Rattle.std.proofs.lemmas.Slice.Eq.{bytes_eq-Decides, starts_is}
 use Rattle.casper_text.specs.Number.{number_of}
 use Rattle.casper_text.proofs.NumberLemmas.{number_read_back, number_text}
-use Rattle.casper_turns.proofs.Lists.{any_found, any_of, any_none, none_passes}
+use Rattle.casper_turns.proofs.Lists.{any_found, any_of, any_none}
 use Rattle.casper_app.specs.declared.cause.Cause.{Cause}
 use Rattle.casper_app.specs.declared.cause.Cause.TheVariants as cause
 use Rattle.casper_app.specs.declared.command.Command.{Command}
-use Rattle.casper_app.specs.declared.command.Command.TheVariants as command
 use Rattle.casper_app.specs.Command.{audit_of, command_of, commands, is_command, pages_from, pages_in, replay_of, replay_of_pages, store_of}
 use Rattle.casper_app.specs.CommandLaws.{unbuilt_commands, IsUsage, IsUnbuiltCommand, IsCommandText, WordsAreSorted}
 use Rattle.casper_app.proofs.LineLawLemmas.{replays_have_one_text}

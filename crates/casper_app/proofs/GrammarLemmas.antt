@@ -10,7 +10,7 @@ use Rattle.casper_text.specs.Number.{number_of}
 use Rattle.casper_text.proofs.NumberLemmas.{number_read_back, number_text}
 use Rattle.casper_model.specs.declared.event.Event.{Event}
 use Rattle.casper_model.specs.declared.event.Event.TheVariants as event
-use Rattle.casper_app.specs.Schedule.{client_of, lone_client, place_of, want_of, each_want, are_wants, rising_wants, wants_of, join_of, read_of, write_of, acquire_of, serve_of, depart_of, vanish_of, lose_of, stabilise_of, write_out_of, finish_of, settle_of, event_of, event_of_verb, is_reopen, asked_of}
+use Rattle.casper_app.specs.Schedule.{client_of, lone_client, place_of, want_of, each_want, are_wants, rising_wants, wants_of, join_of, read_of, write_of, acquire_of, serve_of, depart_of, vanish_of, lose_of, stabilise_of, write_out_of, finish_of, settle_of, event_of, event_of_verb, is_reopen}
 use Rattle.casper_app.specs.declared.schedule.Asked.{Asked}
 use Rattle.casper_app.specs.declared.schedule.Asked.TheVariants as asks
 use Rattle.casper_app.specs.Grammar.{want_text, words_of_event, words_of_asked, AreAsked, IsEvent, IsAskable, EventsAreReadBack, EventsHaveOneText, LinesAreReadBack, LinesHaveOneText}

@@ -1,6 +1,6 @@
-use Rattle.std.proofs.Common.{◌≡◌, ◌≢◌, ℕ, List, true, false, ◌==◌, ◌&&◌, Contains, refl, sym, ap, ◌∙◌, subst, true≢false, arith, ◌<◌, length}
-use Rattle.std.specs.Prelude.{Some, ⊤}
-use Rattle.std.proofs.lemmas.Bool.{and_parts, eqb-true}
+use Rattle.std.proofs.Common.{◌≡◌, ◌≢◌, ℕ, true, false, ◌==◌, refl, sym, ap, ◌∙◌, subst, true≢false, arith, ◌<◌, length}
+use Rattle.std.specs.Prelude.{Some}
+use Rattle.std.proofs.lemmas.Bool.{eqb-true}
 use Rattle.casper_words.specs.Crew.{IsClient}
 use Rattle.casper_model.specs.declared.event.Event.{Event}
 use Rattle.casper_model.specs.Outside.{Outside}
@@ -14,7 +14,6 @@ use Rattle.casper_model.specs.Step.{step}
 use Rattle.casper_model.proofs.StateHistory.{other_own}
 use Rattle.casper_turns.specs.Frozen.{IsSealedBy}
 use Rattle.casper_turns.specs.GoodRuns.{UnfinishedIsSealed, IsGoodMoment}
-use Rattle.casper_turns.specs.GoodStates.{IsGoodState}
 use Rattle.casper_turns.specs.Kept.{KeptByTurn, KeptForAll, IsHeld}
 use Rattle.casper_turns.proofs.Finishes.{finish_kept, settled_kept}
 use Rattle.casper_turns.proofs.FrozenChanges.{one_of_lead}

@@ -1,4 +1,4 @@
-use Rattle.std.proofs.Common.{◌≡◌, arith, ℕ, Bool, true, false, cond, List, [], ◌++◌, Option, Some, None, Result, Ok, Err, ap, sym, subst, ◌∙◌, refl, length, inl, inr, ◌≢◌, ◌⊎◌, IfSome}
+use Rattle.std.proofs.Common.{◌≡◌, arith, ℕ, Bool, true, false, cond, List, [], ◌++◌, Option, Some, None, Result, Ok, Err, ap, sym, subst, ◌∙◌, refl, length, inl, inr, ◌⊎◌, IfSome}
 use Rattle.std.specs.Prelude.{IsTrue}
 use Rattle.std.specs.Io.KnownBytes.{append_known}
 use Rattle.casper_audit.specs.declared.verdict.AuditFault.{AuditFault}
@@ -9,9 +9,6 @@ use Rattle.casper_audit.specs.Verdicts.{IsAudit}
 use Rattle.casper_io.proofs.Known.{append_known-append}
 use Rattle.casper_io.specs.Told.{WhereTold}
 use Rattle.casper_io.specs.Lines.{TakesEnd}
-use Rattle.casper_io.specs.Reading.{TakesAny}
-use Rattle.casper_io.specs.declared.fault.IoFault.TheVariants as fault
-use Rattle.casper_io.specs.declared.lines.Next.TheVariants as next
 use Rattle.casper_trail.specs.declared.item.Item.{Item}
 use Rattle.casper_trail.specs.Legal.{IsLegal}
 use Rattle.casper_model.specs.State.{State, zero_vault}
@@ -21,8 +18,6 @@ use Rattle.casper_core.specs.Shaped.{RepresentsButWords}
 use Rattle.casper_core.specs.Stepping.{RoseBy, failures_in}
 use Rattle.casper_sessions.specs.Chain.{Limits}
 use Rattle.casper_space.specs.declared.answer.Answer.{Answer}
-use Rattle.casper_report.specs.Texts.{answer_lines}
-use Rattle.casper_report.specs.declared.summary.Summary.{Summary}
 use Rattle.casper_app.specs.declared.cause.Cause.{Cause}
 use Rattle.casper_app.specs.declared.cause.Cause.TheVariants as cause
 use Rattle.casper_app.specs.declared.command.Opening.{Opening}
@@ -40,7 +35,7 @@ use Rattle.casper_app.specs.Outlet.{keeps, writes, kept_of, written_of}
 use Rattle.casper_app.specs.Replay.{EndsFor, WritesAnswers, cause_of}
 use Rattle.casper_app.specs.Reading.{IsReading, stop_of}
 use Rattle.casper_app.specs.Ending.{EndsWith, IsDone, RunsReplay, RunsInMemory, RunsRefusal, IsLegalInMemory, start_of, RunsAudit, end_of_audit}
-use Rattle.casper_app.specs.Texts.{end_line, tells_number}
+use Rattle.casper_app.specs.Texts.{tells_number}
 use Rattle.casper_app.proofs.CarryLemmas.{shape_told, summary_told}
 use Rattle.casper_app.proofs.ChainLemmas.{plays_are_sessions}
 use Rattle.casper_app.proofs.SessionLemmas.{lines_name_clients, sessions_are_legal}

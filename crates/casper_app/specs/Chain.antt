@@ -1,4 +1,4 @@
-use Rattle.std.specs.Prelude.{◌≡◌, ℕ, ◌+◌, ◌-◌, ◌^◌, ◌≤◌, List, [], ◌∷◌, ◌++◌, map, ⊤}
+use Rattle.std.specs.Prelude.{◌≡◌, List, [], ◌∷◌, ◌++◌, map, ⊤}
 use Rattle.casper_trail.specs.declared.item.Item.{Item}
 use Rattle.casper_trail.specs.TrailView.{commit_count, rollback_count}
 use Rattle.casper_space.specs.declared.answer.Answer.{Answer}
@@ -10,7 +10,7 @@ use Rattle.casper_core.specs.Stepping.{happenings_of}
 use Rattle.casper_sessions.specs.Chain.{Limits, Session, IsChain, IsFound, opened}
 use Rattle.casper_app.specs.declared.schedule.Asked.{Asked}
 use Rattle.casper_app.specs.declared.schedule.Asked.TheVariants as asked
-use Rattle.casper_app.specs.Play.{Standing, Plays, begun, by_machine, past_with, added}
+use Rattle.casper_app.specs.Play.{Standing, Plays, begun, by_machine, added}
 use Rattle.casper_app.specs.Session.{IsSession, state_behind, trail_behind}
 
 -- What is asked for and answered, parted into sessions at each reopen.

@@ -1,4 +1,4 @@
-use Rattle.casper_app.proofs.CarryLemmas.{event_step, event_none}
+use Rattle.casper_app.proofs.CarryLemmas.{event_step}
 use Rattle.casper_app.proofs.sessions.Sessions.carry_out.Goals as goal
 
 pub returns-in-Ok-clause-step : goal.returns-in-Ok-clause-step
