@@ -10,3 +10,4 @@ pub mod ReadLemmas
 pub mod VaultLemmas
 pub mod PlanningLemmas
 pub mod FullLemmas
+pub mod ReopenLemmas

@@ -1,4 +1,4 @@
-use Rattle.std.specs.Prelude.{◌≡◌, ◌≤◌, ℕ, List, Result, Ok, Err}
+use Rattle.std.specs.Prelude.{◌≡◌, ◌≤◌, ℕ, Bool, IsTrue, List, Result, Ok, Err}
 use Rattle.casper_disk.specs.Vault.{Saved}
 use Rattle.casper_root.specs.declared.fault.OpenFault.{OpenFault}
 use Rattle.casper_stable.specs.Opens.{Store, opens}
@@ -15,8 +15,9 @@ pub record Leaves (images : List (List ℕ) → Type 0) (saved : Saved) : Type 0
   pub left : images blocks
   pub opens : saved_of (opens blocks) ≡ Ok saved
 
--- what each call of a store keeps: its disk leads to the later one, its sizes stay, and its version never falls
-pub record KeptLeadsTo {D : Type 0} (leads : D → D → Type 0) (before after : Kept D) : Type 0 where
+-- what each call of a store keeps: its disk leads to the later one, its sizes stay, and where the disk tells what it holds, the version
+-- never falls
+pub record KeptLeadsTo {D : Type 0} (tells : Bool) (leads : D → D → Type 0) (before after : Kept D) : Type 0 where
   pub disk : leads before.disk after.disk
   pub header : after.header ≡ before.header
-  pub version : before.body.seq ≤ after.body.seq
+  pub version : IsTrue tells → before.body.seq ≤ after.body.seq

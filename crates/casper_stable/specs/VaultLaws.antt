@@ -137,15 +137,15 @@ one_law size tells content loose images_now kept image stands told =
     (loose kept.disk) both.0 (both.1 told) in never found.0 found.1))
 
 -- a store leads to itself, and on
-pub leads_itself : {D : Type 0} {leads : D → D → Type 0} (kept : Kept D) → leads kept.disk kept.disk → KeptLeadsTo leads kept kept
-leads_itself kept disk = record { disk = disk; header = refl; version = omega arith }
+pub leads_itself : {D : Type 0} {tells : Bool} {leads : D → D → Type 0} (kept : Kept D) → leads kept.disk kept.disk → KeptLeadsTo tells leads kept kept
+leads_itself kept disk = record { disk = disk; header = refl; version = λ told. omega arith }
 
-pub leads_further : {D : Type 0} {leads : D → D → Type 0} (first second third : Kept D) → leads first.disk third.disk
-    → KeptLeadsTo leads first second → KeptLeadsTo leads second third
-    → KeptLeadsTo leads first third
+pub leads_further : {D : Type 0} {tells : Bool} {leads : D → D → Type 0} (first second third : Kept D) → leads first.disk third.disk
+    → KeptLeadsTo tells leads first second → KeptLeadsTo tells leads second third
+    → KeptLeadsTo tells leads first third
 leads_further first second third disk early late = record {
   disk = disk;
   header = late.header
       ∙ early.header;
-  version = omega (arith, early.version, late.version);
+  version = λ told. omega (arith, early.version told, late.version told);
 }

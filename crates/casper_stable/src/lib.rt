@@ -8,6 +8,7 @@ mod opening;
 mod pieces;
 mod planning;
 mod reading;
+mod reopening;
 mod settling;
 mod stable;
 mod store;

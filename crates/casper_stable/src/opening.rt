@@ -87,7 +87,7 @@ pub(crate) fn stable_of<D: Disk>(disk: D, found: Found) -> Stable<D>
 }
 
 /// Reads the current root of a store with its map, and syncs.
-fn read_settled<D: Disk>(alloc: Global, disk: &mut D) -> Result<Found, OpenFault>
+pub(crate) fn read_settled<D: Disk>(alloc: Global, disk: &mut D) -> Result<Found, OpenFault>
     ensures found { IsTrue D.tells →
         IfOk result (λ found. OpenTo (D.content disk.old) found.roots found.map) }
     ensures refused { IsTrue D.tells → IfErr result (IsRefusalOf (opens (D.content disk.old))) }

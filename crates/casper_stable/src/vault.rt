@@ -40,7 +40,7 @@ impl<D: Disk> Vault for Stable<D> {
 
     ghost faults = { λ vault. D.faults vault.store.disk };
 
-    ghost leads_to = { λ before after. KeptLeadsTo D.leads_to before.store after.store };
+    ghost leads_to = { λ before after. KeptLeadsTo D.tells D.leads_to before.store after.store };
 
     fn pages(&self) -> u32 {
         self.store.pages()
@@ -108,7 +108,7 @@ impl<D: Disk> Vault for Stable<D> {
             (IsOldOrNewImage (image_of D.content (kept_by self.old)) (kept_by self.old).body.seq
             (as_changes changes.now)
             (version_after (as_changes changes.now) (kept_by self.old).body.seq)) }
-        ensures leads { KeptLeadsTo D.leads_to (kept_by self.old) (kept_by self.new) }
+        ensures leads { KeptLeadsTo D.tells D.leads_to (kept_by self.old) (kept_by self.new) }
         ensures old_alone { IsTrue D.tells → IsErrOf result CommitFault.Disk → LeavesOldAlone
             D.content D.moment D.images_since (kept_by self.old) (kept_by self.new).disk }
         ensures gate_call { length changes.now ≢ 0 → OnOk result
@@ -173,7 +173,7 @@ impl<D: Disk> Vault for Stable<D> {
             (changes_in (doubt_of D.content (kept_by self.old)))
             (version_settled (doubt_of D.content (kept_by self.old))
             (kept_by self.old).body.seq)) }
-        ensures leads { KeptLeadsTo D.leads_to (kept_by self.old) (kept_by self.new) }
+        ensures leads { KeptLeadsTo D.tells D.leads_to (kept_by self.old) (kept_by self.new) }
         ensures frames { OnOk result (OthersKeepFrames (pages_in_doubt (kept_by self.old).doubt)
             (kept_by self.old).held (kept_by self.new).held) }
         ensures same_frames { OnErr result ((kept_by self.new).held ≡ (kept_by self.old).held) }

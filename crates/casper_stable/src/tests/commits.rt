@@ -1,6 +1,8 @@
 use crate::Stable;
-use crate::tests::{commit_three, commit_to, formatted, found, opened};
+use crate::tests::{commit_three, commit_to, formatted, found, opened, seen};
 use casper_disk::{CommitFault, Disk, DiskFault, Fail as Failing, Kind, MemDisk, Pick, Vault};
+use casper_reopen::Reopen;
+use casper_root::OpenFault;
 use casper_words::{Frame, Memory, Page};
 use std::alloc::Global;
 use std::process::Abort;
@@ -253,6 +255,29 @@ fn settles_forward(rt: HostRuntime) -> Result<(), Fail> {
     for (kind, number, sync) in [(Kind::Write, 7, 4), (Kind::Sync, 4, 5)] {
         settles_after(&rt, rt.alloc(), Failing { kind, number }, sync)?;
     }
+    Ok(())
+}
+
+/// What a reopen answers, and whether a commit is in doubt after it.
+fn reopened<D: Disk>(
+    alloc: Global,
+    stable: &mut Stable<D>,
+) -> (Result<(), OpenFault>, bool) {
+    (stable.reopen(alloc), stable.in_doubt())
+}
+
+/// The second commit is in doubt by its last sync, and the first reopen fails by its own. The next one finds the new root.
+#[test]
+fn opens_again_in_doubt(rt: HostRuntime) -> Result<(), Fail> {
+    let kind = Kind::Sync;
+    let fails = [Failing { kind, number: 4 }, Failing { kind, number: 5 }];
+    let mut stable = store_after(&rt, rt.alloc(), 1, &fails)?;
+    doubts(&rt, rt.alloc(), &mut stable)?;
+    let failed = reopened(rt.alloc(), &mut stable);
+    assert_eq!(rt; failed, (Err(OpenFault::Disk), true));
+    assert_eq!(rt; reopened(rt.alloc(), &mut stable), (Ok(()), false));
+    let found = seen(&rt, rt.alloc(), &mut stable)?;
+    assert_eq!(rt; found, (3, 2));
     Ok(())
 }
 

@@ -2,6 +2,7 @@ use crate::Stable;
 use crate::tests::commits::commit_two;
 use crate::tests::{formatted, opened};
 use casper_disk::{Call, Disk, Fail as Failing, Kind, MemDisk, Noted, Vault};
+use casper_reopen::Reopen;
 use casper_root::OpenFault;
 use casper_words::{Block, Frame, Memory, Page};
 use std::alloc::Global;
@@ -247,21 +248,33 @@ fn mapped_twice(rt: &impl Abort, alloc: Global) -> Result<MemDisk, Fail> {
 }
 
 /// Each block is read once: the header, the gates, the bodies, and the map blocks in their order. Then there is one sync.
+const OPENING: [Call; 8] = [
+    Call::Read(0),
+    Call::Read(2),
+    Call::Read(4),
+    Call::Read(1),
+    Call::Read(3),
+    Call::Read(7),
+    Call::Read(8),
+    Call::Sync,
+];
+
 #[test]
 fn opens_by_the_calls_of_the_table(rt: HostRuntime) -> Result<(), Fail> {
-    let table = [
-        Call::Read(0),
-        Call::Read(2),
-        Call::Read(4),
-        Call::Read(1),
-        Call::Read(3),
-        Call::Read(7),
-        Call::Read(8),
-        Call::Sync,
-    ];
     let noted = Noted::new(rt.alloc(), mapped_twice(&rt, rt.alloc())?, 16)?;
     let disk = opened(rt.alloc(), noted)?.into_disk();
-    assert_eq!(rt; disk.calls(), table.as_slice());
+    assert_eq!(rt; disk.calls(), OPENING.as_slice());
+    Ok(())
+}
+
+#[test]
+fn opens_again_by_the_same_calls(rt: HostRuntime) -> Result<(), Fail> {
+    let noted = Noted::new(rt.alloc(), mapped_twice(&rt, rt.alloc())?, 16)?;
+    let mut stable = opened(rt.alloc(), noted)?;
+    assert_eq!(rt; stable.reopen(rt.alloc()), Ok(()));
+    let disk = stable.into_disk();
+    assert_eq!(rt; disk.calls().len(), 16);
+    assert!(rt; disk.calls().ends_with(&OPENING));
     Ok(())
 }
 
