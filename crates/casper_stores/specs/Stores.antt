@@ -1,4 +1,4 @@
-use Rattle.std.specs.Prelude.{◌≡◌, ◌&&◌, ℕ, not, List, Option, Some, None, Result, Ok, Err, if◌then◌else◌}
+use Rattle.std.specs.Prelude.{ℕ, List, Option, Some, None, Result, Ok, Err, if◌then◌else◌}
 use Rattle.casper_disk.specs.Place.{Place, Missing, Out, Standing, is_there}
 use Rattle.casper_root.specs.Opening.{are_sizes}
 use Rattle.casper_root.specs.declared.fault.OpenFault.{OpenFault}

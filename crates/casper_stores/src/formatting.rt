@@ -27,7 +27,7 @@ pub fn format<H: Shelf>(
     pages: u32,
     frames: u32,
 ) -> Result<(), StoreFault>
-    ensures sizes { IsErrOf result (StoreFault.Refused (Refusal.BadSize pages frames))
+    ensures bad_sizes { IsErrOf result (StoreFault.Refused (Refusal.BadSize pages frames))
         ↔ IsFalse (are_sizes (sizes pages frames)) }
     ensures refused { IsTrue H.tells → (refusal : Refusal)
         → IsErrOf result (StoreFault.Refused refusal)

@@ -74,6 +74,9 @@ pub fn open_store<H: Shelf>(
 pub fn close_store<H: Shelf>(shelf: &mut H, name: &[u8], store: Stable<H::Disk>)
     requires { IsTrue H.tells → H.place shelf.old name.now ≡ Out }
     ensures stands { IsTrue H.tells → H.place shelf.new name.now ≡ Standing (kept_by store).disk }
+    ensures left { IsTrue H.tells → (kept_by store).doubt ≡ None
+        → store_under H.Disk.content (H.place shelf.new name.now)
+        ≡ Ok (shown H.Disk.content (kept_by store)) }
     ensures others { IsTrue H.tells → (other : List ℕ) → other ≢ name.now
         → H.place shelf.new other ≡ H.place shelf.old other }
     ensures others_handed { (other : List ℕ) → other ≢ name.now
