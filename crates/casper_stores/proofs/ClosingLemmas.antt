@@ -1,7 +1,8 @@
-use Rattle.std.proofs.Common.{◌≡◌, ℕ, Bool, List, ap}
+use Rattle.std.proofs.Common.{◌≡◌, ◌∙◌, ℕ, Bool, List, refl, ap}
 use Rattle.std.specs.Prelude.{IsTrue, Option, None, Some, Result, Ok, Err}
 use Rattle.std.specs.Coded.{Coded, Coded-set, code_by, coded×, coded_ℕ, coded_list, coded_option}
 use Rattle.std.proofs.Math.Logic.{∥∥₁_elim}
+use Rattle.casper_disk.specs.Place.{Place, Standing}
 use Rattle.casper_disk.specs.Record.{agrees_itself}
 use Rattle.casper_root.specs.declared.fault.OpenFault.{OpenFault}
 use Rattle.casper_stable.specs.Kept.{Kept, roots_in}
@@ -9,14 +10,23 @@ use Rattle.casper_stable.specs.Opened.{shown}
 use Rattle.casper_stable.specs.Opens.{Store, opens}
 use Rattle.casper_stable.specs.Sound.{IsHeld, IsKept, IsOnDisk}
 use Rattle.casper_stable.specs.SoundLemmas.{sure_image}
+use Rattle.casper_stores.specs.Stores.{store_under, store_or_fault}
 
 store_code : Coded Store
 store_code =
     code_by ((ℕ × ℕ) × ((List (List ℕ) × ℕ) × (ℕ × (List (Option ℕ) × ℕ))))
     (coded× (coded× coded_ℕ coded_ℕ) (coded× (coded× (coded_list (coded_list coded_ℕ)) coded_ℕ) (coded× coded_ℕ
     (coded× (coded_list (coded_option coded_ℕ)) coded_ℕ))))
-    (λ store. ((store.header.pages, store.header.frames), ((store.saved.image, store.saved.version), (store.held.first_page,
-    (store.held.places, store.held.frames)))))
+    (λ store. (
+      (store.header.pages, store.header.frames),
+      (
+        (store.saved.image, store.saved.version),
+        (
+          store.held.first_page,
+          (store.held.places, store.held.frames),
+        ),
+      ),
+    ))
     (λ parts. record {
       header = record { pages = parts.0.0; frames = parts.0.1 };
       saved = record { image = parts.1.0.0; version = parts.1.0.1 };
@@ -45,3 +55,9 @@ pub closed_opens : {D : Type 0} (size : D → ℕ) (tells : Bool) (content : D �
 closed_opens size tells content loose kept stands told sure =
     found_by (opens (content kept.disk)) (shown content kept) (IsKept size kept × IsHeld tells content loose kept) stands
     (λ both. sure_opens content loose kept kept.doubt sure (both.1 told))
+
+-- what is opened under a name where such a disk stands
+pub opened_under : {D : Type 0} (content : D → List (List ℕ)) (place : Place D) (closed disk : D) (store : Store) → place ≡ Standing closed
+    → closed ≡ disk → opens (content disk) ≡ Ok store → store_under content place ≡ Ok store
+opened_under content place closed disk store stands same is =
+    ap (store_under content) (stands ∙ ap Standing same) ∙ ap store_or_fault is

@@ -25,8 +25,7 @@ fn commit_one<H: Shelf>(
     shelf: &mut H,
     name: &[u8],
     number: u64,
-) -> Result<Option<u64>, Fail>
-{
+) -> Result<Option<u64>, Fail> {
     let mut frame = Frame::zero(alloc)?;
     frame.set(0, number);
     let Ok(mut store) = open_store(alloc, shelf, name) else {

@@ -36,7 +36,11 @@ fn sizes_are_refused(rt: HostRuntime) -> Result<(), Fail> {
     for (pages, frames) in [(0, 3), (16_385, 3), (1, 1), (1, 65_537), (1, u32::MAX)] {
         let refusal = Refusal::BadSize { pages, frames };
         let answer = format(alloc, &mut shelf, b"s", pages, frames);
-        assert_eq!(rt; answer, Err(StoreFault::Refused(refusal)), "{pages} and {frames}");
+        assert_eq!(rt;
+            answer,
+            Err(StoreFault::Refused(refusal)),
+            "{pages} and {frames}"
+        );
     }
     Ok(())
 }
@@ -49,7 +53,10 @@ fn a_shelf_that_fails(rt: HostRuntime) -> Result<(), Fail> {
     let fault: Result<(), StoreFault> = Err(StoreFault::Disk);
     assert_eq!(rt; format(alloc, &mut shelf, b"s", 1024, 3), fault);
     assert_eq!(rt; format(alloc, &mut shelf, b"s", 1024, 3), Ok(()));
-    assert_eq!(rt; check(alloc, &mut shelf, b"s").err(), Some(StoreFault::Disk));
+    assert_eq!(rt;
+        check(alloc, &mut shelf, b"s").err(),
+        Some(StoreFault::Disk)
+    );
     assert_eq!(rt; check(alloc, &mut shelf, b"s"), checked(1, 0));
     Ok(())
 }
