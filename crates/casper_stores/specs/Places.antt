@@ -1,0 +1,23 @@
+use Rattle.std.specs.Prelude.{◌≡◌, List, ℕ, Result, Ok, Err, ⊤}
+use Rattle.casper_disk.specs.Place.{Place, Missing, Out, Standing}
+
+-- a disk stands there, and meets a fact
+abbrev pub Stands : {D : Type 0} → (D → Type 0) → Place D → Type 0
+Stands fact Missing = ⊥
+Stands fact Out = ⊥
+Stands fact (Standing disk) = fact disk
+
+-- where a disk stood, one stands that follows from it
+abbrev pub StandsOn : {D : Type 0} → (D → D → Type 0) → Place D → Place D → Type 0
+StandsOn follows Missing later = ⊤
+StandsOn follows Out later = ⊤
+StandsOn follows (Standing disk) later = Stands (follows disk) later
+
+-- where the disk of an opened store stands: with the store, or where it was refused, at its place
+abbrev pub place_held : {S E D : Type 0} → (S → D) → Result S E → Place D → Place D
+place_held disk_of (Ok store) place = Standing (disk_of store)
+place_held disk_of (Err fault) place = place
+
+-- one disk has the content of another
+abbrev pub SameContent : {D : Type 0} → (D → List (List ℕ)) → D → D → Type 0
+SameContent content disk after = content after ≡ content disk
