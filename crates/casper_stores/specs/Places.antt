@@ -2,16 +2,16 @@ use Rattle.std.specs.Prelude.{◌≡◌, List, ℕ, Result, Ok, Err, ⊤}
 use Rattle.casper_disk.specs.Place.{Place, Missing, Out, Standing}
 
 -- a disk stands there, and meets a fact
-abbrev pub Stands : {D : Type 0} → (D → Type 0) → Place D → Type 0
-Stands fact Missing = ⊥
-Stands fact Out = ⊥
-Stands fact (Standing disk) = fact disk
+abbrev pub HasDisk : {D : Type 0} → (D → Type 0) → Place D → Type 0
+HasDisk fact Missing = ⊥
+HasDisk fact Out = ⊥
+HasDisk fact (Standing disk) = fact disk
 
 -- where a disk stood, one stands that follows from it
-abbrev pub StandsOn : {D : Type 0} → (D → D → Type 0) → Place D → Place D → Type 0
-StandsOn follows Missing later = ⊤
-StandsOn follows Out later = ⊤
-StandsOn follows (Standing disk) later = Stands (follows disk) later
+abbrev pub DiskGoesOn : {D : Type 0} → (D → D → Type 0) → Place D → Place D → Type 0
+DiskGoesOn follows Missing later = ⊤
+DiskGoesOn follows Out later = ⊤
+DiskGoesOn follows (Standing disk) later = HasDisk (follows disk) later
 
 -- where the disk of an opened store stands: with the store, or where it was refused, at its place
 abbrev pub place_held : {S E D : Type 0} → (S → D) → Result S E → Place D → Place D

@@ -4,7 +4,7 @@ ghost use Rattle.casper_disk.specs.Disk.{none_loose};
 ghost use Rattle.casper_disk.specs.Place.{is_standing};
 ghost use Rattle.casper_report.specs.declared.refusal.Refusal.{Refusal};
 ghost use Rattle.casper_stable.specs.Opened.{AddsNoWrites};
-ghost use Rattle.casper_stores.specs.Places.{Stands, StandsOn, SameContent};
+ghost use Rattle.casper_stores.specs.Places.{HasDisk, DiskGoesOn, SameContent};
 ghost use Rattle.casper_stores.specs.Stores.{store_under, checked_of};
 
 use crate::{StoreFault, close_store, open_store};
@@ -32,15 +32,15 @@ pub fn check<H: Shelf>(alloc: Global, shelf: &mut H, name: &[u8]) -> Result<Chec
     ensures found { IsTrue H.tells → IfOk result (λ checked.
         IsOkAnd (store_under H.Disk.content (H.place shelf.old name.now))
         (λ store. checked ≡ checked_of store)) }
-    ensures content { IsTrue H.tells → StandsOn (SameContent H.Disk.content)
+    ensures content { IsTrue H.tells → DiskGoesOn (SameContent H.Disk.content)
         (H.place shelf.old name.now) (H.place shelf.new name.now) }
-    ensures images { IsTrue H.tells → StandsOn
+    ensures images { IsTrue H.tells → DiskGoesOn
         (AddsNoWrites H.Disk.content H.Disk.loose H.Disk.moment H.Disk.images_since)
         (H.place shelf.old name.now) (H.place shelf.new name.now) }
-    ensures leads { IsTrue H.tells → StandsOn H.Disk.leads_to
+    ensures leads { IsTrue H.tells → DiskGoesOn H.Disk.leads_to
         (H.place shelf.old name.now) (H.place shelf.new name.now) }
     ensures settled { IsTrue H.tells → OnOk result
-        (Stands (λ disk. H.Disk.loose disk ≡ none_loose) (H.place shelf.new name.now)) }
+        (HasDisk (λ disk. H.Disk.loose disk ≡ none_loose) (H.place shelf.new name.now)) }
     ensures missing { IsTrue H.tells → IsFalse (is_standing (H.place shelf.old name.now))
         → H.place shelf.new name.now ≡ H.place shelf.old name.now }
     ensures others { IsTrue H.tells → (other : List ℕ) → other ≢ name.now

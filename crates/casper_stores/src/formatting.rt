@@ -5,7 +5,7 @@ ghost use Rattle.casper_disk.specs.Place.{is_standing};
 ghost use Rattle.casper_root.specs.Opening.{are_sizes};
 ghost use Rattle.casper_report.specs.declared.refusal.Refusal.{Refusal};
 ghost use Rattle.casper_stable.specs.Formatted.{sizes, new_store};
-ghost use Rattle.casper_stores.specs.Places.{Stands};
+ghost use Rattle.casper_stores.specs.Places.{HasDisk};
 ghost use Rattle.casper_stores.specs.Stores.{store_under, format_refusal};
 
 use crate::StoreFault;
@@ -36,16 +36,16 @@ pub fn format<H: Shelf>(
         (store_under H.Disk.content (H.place shelf.new name.now)
         ≡ Ok (new_store (sizes pages frames))) }
     ensures blocks { IsTrue H.tells → OnOk result
-        (Stands (λ disk. length (H.Disk.content disk) ≡ 5 + frames)
+        (HasDisk (λ disk. length (H.Disk.content disk) ≡ 5 + frames)
         (H.place shelf.new name.now)) }
     ensures settled { IsTrue H.tells → OnOk result
-        (Stands (λ disk. H.Disk.loose disk ≡ none_loose) (H.place shelf.new name.now)) }
+        (HasDisk (λ disk. H.Disk.loose disk ≡ none_loose) (H.place shelf.new name.now)) }
     ensures kept { IsTrue H.tells → (refusal : Refusal)
         → IsErrOf result (StoreFault.Refused refusal)
         → H.place shelf.new name.now ≡ H.place shelf.old name.now }
     ensures unwritten { IsTrue H.tells → IsErrOf result StoreFault.Memory
         → (H.place shelf.new name.now ≡ H.place shelf.old name.now)
-        ⊎ Stands (λ disk. H.Disk.content disk ≡ replicate (5 + frames) (replicate 4096 0))
+        ⊎ HasDisk (λ disk. H.Disk.content disk ≡ replicate (5 + frames) (replicate 4096 0))
         (H.place shelf.new name.now) }
     ensures home { IsTrue H.tells
         → (H.place shelf.new name.now ≡ H.place shelf.old name.now)

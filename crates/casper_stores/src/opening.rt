@@ -6,7 +6,7 @@ ghost use Rattle.casper_disk.specs.Place.{Out, Standing, is_standing};
 ghost use Rattle.casper_report.specs.declared.refusal.Refusal.{Refusal};
 ghost use Rattle.casper_stable.specs.KeptBy.{kept_by};
 ghost use Rattle.casper_stable.specs.Opened.{shown, AddsNoWrites};
-ghost use Rattle.casper_stores.specs.Places.{StandsOn, SameContent, place_held};
+ghost use Rattle.casper_stores.specs.Places.{DiskGoesOn, SameContent, place_held};
 ghost use Rattle.casper_stores.specs.Stores.{store_under};
 
 use crate::StoreFault;
@@ -34,18 +34,18 @@ pub fn open_store<H: Shelf>(
     ensures sure { IfOk result (λ store. (kept_by store).doubt ≡ None) }
     ensures settled { IsTrue H.tells
         → IfOk result (λ store. H.Disk.loose (kept_by store).disk ≡ none_loose) }
-    ensures content { IsTrue H.tells → StandsOn (SameContent H.Disk.content)
+    ensures content { IsTrue H.tells → DiskGoesOn (SameContent H.Disk.content)
         (H.place shelf.old name.now)
         (place_held (λ store. (kept_by store).disk) result (H.place shelf.new name.now)) }
-    ensures images { IsTrue H.tells → StandsOn
+    ensures images { IsTrue H.tells → DiskGoesOn
         (AddsNoWrites H.Disk.content H.Disk.loose H.Disk.moment H.Disk.images_since)
         (H.place shelf.old name.now)
         (place_held (λ store. (kept_by store).disk) result (H.place shelf.new name.now)) }
-    ensures leads { IsTrue H.tells → StandsOn H.Disk.leads_to
+    ensures leads { IsTrue H.tells → DiskGoesOn H.Disk.leads_to
         (H.place shelf.old name.now)
         (place_held (λ store. (kept_by store).disk) result (H.place shelf.new name.now)) }
     ensures unsettled { IsTrue H.tells → OnErr result
-        (StandsOn (λ disk after. IsLooseWithin (H.Disk.loose disk) (H.Disk.loose after))
+        (DiskGoesOn (λ disk after. IsLooseWithin (H.Disk.loose disk) (H.Disk.loose after))
         (H.place shelf.old name.now) (H.place shelf.new name.now)) }
     ensures missing { IsTrue H.tells → IsFalse (is_standing (H.place shelf.old name.now))
         → H.place shelf.new name.now ≡ H.place shelf.old name.now }

@@ -259,10 +259,7 @@ fn settles_forward(rt: HostRuntime) -> Result<(), Fail> {
 }
 
 /// What a reopen answers, and whether a commit is in doubt after it.
-fn reopened<D: Disk>(
-    alloc: Global,
-    stable: &mut Stable<D>,
-) -> (Result<(), OpenFault>, bool) {
+fn reopened<D: Disk>(alloc: Global, stable: &mut Stable<D>) -> (Result<(), OpenFault>, bool) {
     (stable.reopen(alloc), stable.in_doubt())
 }
 

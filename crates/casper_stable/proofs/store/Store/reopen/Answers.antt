@@ -48,14 +48,14 @@ returns-then-pages-self-clause-outside g c told =
     let content = g.D.Disk.content own.disk in
     let found = c.in_ok-found.found in
     let same : found.roots.header ≡ own.header =
-        opened_header _ content (store_of content found.roots found.map)
-        (kept_opens g.D.Disk.size g.D.Disk.tells g.D.Disk.content g.D.Disk.loose kept c.self.invariant.0 c.self.invariant.1 told)
-        (found_opens content found.roots found.map (c.in_ok-found.ensures.found told))
+    opened_header _ content (store_of content found.roots found.map)
+    (kept_opens g.D.Disk.size g.D.Disk.tells g.D.Disk.content g.D.Disk.loose kept c.self.invariant.0 c.self.invariant.1 told)
+    (found_opens content found.roots found.map (c.in_ok-found.ensures.found told))
     in
     let pages : found.roots.header.pages ≡ own.header.pages = ap (λ (one : Header). one.pages) same in
     let frames : found.roots.header.frames ≡ own.header.frames = ap (λ (one : Header). one.frames) same in
     elim c.then-pages-self.branch [
-      then-pages-self-via-then-pages-self w ↦ absurd (let other = w.if-pages-self.true in omega (arith, pages, other))
+      | then-pages-self-via-then-pages-self w ↦ absurd (let other = w.if-pages-self.true in omega (arith, pages, other))
       | then-pages-self-via-else-pages-self+then-frames-self w ↦ absurd (let other = w.if-frames-self.true in omega (arith, frames, other))
     ]
 
@@ -65,8 +65,7 @@ invariant_of-self-2 g c =
     let found = c.in_ok-found.found in
     let same_pages = c.if-pages-self.false in
     let same_frames = c.if-frames-self.false in
-    let same : found.roots.header ≡ own.header = header_same found.roots.header own.header (omega (arith, same_pages)) (omega (arith, same_frames)) in
-    (
+    let same : found.roots.header ≡ own.header = header_same found.roots.header own.header (omega (arith, same_pages)) (omega (arith, same_frames)) in (
       found_fits (g.D.Disk.size c.read_settled.new.disk) found.roots own.header found.map same c.in_ok-found.ensures.fits,
       λ told. found_sure found.roots own.header found.map (g.D.Disk.content own.disk) (g.D.Disk.content c.read_settled.new.disk) (g.D.Disk.loose c.read_settled.new.disk)
           same (c.in_ok-found.ensures.found told) (c.read_settled.ensures.content told) (c.in_ok-found.ensures.settled told),
@@ -78,8 +77,7 @@ returns-clause-kept g c =
     let found = c.in_ok-found.found in
     let same_pages = c.if-pages-self.false in
     let same_frames = c.if-frames-self.false in
-    let same : found.roots.header ≡ own.header = header_same found.roots.header own.header (omega (arith, same_pages)) (omega (arith, same_frames)) in
-    (
+    let same : found.roots.header ≡ own.header = header_same found.roots.header own.header (omega (arith, same_pages)) (omega (arith, same_frames)) in (
       found_fits (g.D.Disk.size c.read_settled.new.disk) found.roots own.header found.map same c.in_ok-found.ensures.fits,
       λ told. found_sure found.roots own.header found.map (g.D.Disk.content own.disk) (g.D.Disk.content c.read_settled.new.disk) (g.D.Disk.loose c.read_settled.new.disk)
           same (c.in_ok-found.ensures.found told) (c.read_settled.ensures.content told) (c.in_ok-found.ensures.settled told),
