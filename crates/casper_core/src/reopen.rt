@@ -85,32 +85,33 @@ mod tests {
         Who::new(1).expect(rt, "a client")
     }
 
-    /// Makes a step, whose answer has to be this one.
-    fn step(rt: &impl Abort, core: &mut Core<MemVault>, event: Event, answer: Answer) {
-        assert_eq!(rt; core.step(&event), Ok(answer));
-    }
-
     #[test]
     fn begins_over_what_is_stable(rt: HostRuntime) -> Result<(), Fail> {
         let vault = MemVault::new(rt.alloc(), 8)?;
         let made = Core::new(rt.alloc(), vault, 10_000, 8);
         let mut core = made.map_err(|refused| refused.1)?;
         let one = one(&rt);
-        step(&rt, &mut core, Event::Join(one), Answer::Joined);
-        let write = Event::Write(one, Page(5), 0, 17);
-        step(&rt, &mut core, write, Answer::Ok);
-        step(&rt, &mut core, Event::Stabilise(one), Answer::Sealed(1));
-        step(&rt, &mut core, Event::WriteOut(one), Answer::Written(2));
-        step(&rt, &mut core, Event::Finish(one), Answer::Commit(2));
-        let lost = Event::Write(one, Page(5), 0, 18);
-        step(&rt, &mut core, lost, Answer::Ok);
+        let rows = [
+            (Event::Join(one), Answer::Joined),
+            (Event::Write(one, Page(5), 0, 17), Answer::Ok),
+            (Event::Stabilise(one), Answer::Sealed(1)),
+            (Event::WriteOut(one), Answer::Written(2)),
+            (Event::Finish(one), Answer::Commit(2)),
+            (Event::Write(one, Page(5), 0, 18), Answer::Ok),
+        ];
+        for (event, answer) in rows {
+            assert_eq!(rt; core.step(&event), Ok(answer));
+        }
         assert_eq!(rt; core.reopen(10_000), Ok(()));
-        let read = Event::Read(one, Page(5), 0);
-        step(&rt, &mut core, read, Answer::Absent);
-        step(&rt, &mut core, Event::Join(one), Answer::Joined);
-        step(&rt, &mut core, read, Answer::Value(17));
-        assert_eq!(rt; core.calls(), 3);
-        assert_eq!(rt; core.version(), 2);
+        let rows = [
+            (Event::Read(one, Page(5), 0), Answer::Absent),
+            (Event::Join(one), Answer::Joined),
+            (Event::Read(one, Page(5), 0), Answer::Value(17)),
+        ];
+        for (event, answer) in rows {
+            assert_eq!(rt; core.step(&event), Ok(answer));
+        }
+        assert_eq!(rt; (core.calls(), core.version()), (3, 2));
         Ok(())
     }
 }
