@@ -27,7 +27,7 @@ use Rattle.casper_map.proofs.FreeLemmas.{plans_take_free_frames}
 use Rattle.casper_map.proofs.OpenedLemmas.{all_in}
 use Rattle.casper_stable.specs.Opens.{opens, store_of, pages_in}
 use Rattle.casper_stable.specs.Kept.{roots_of, next_body, change_written, changes_written}
-use Rattle.casper_stable.specs.Leaves.{saved_of}
+use Rattle.casper_stable.specs.Leaves.{IsLeftBy}
 use Rattle.casper_stable.specs.Sound.{IsFit, IsSure, IsDoubtful, IsOnDisk, OpensToMap, free_blocks, root_of}
 use Rattle.casper_stable.specs.Writing.{Written, IsWritten, HoldsWritten, OpensToWritten, IsOldOrWritten, NextStands, GateDecides, piece_count, piece_place, piece_frames}
 use Rattle.casper_stable.specs.LeavesLemmas.{saved_is}
@@ -164,7 +164,7 @@ pub either_written : (size : ℕ) (roots : Roots) (written : Written) (content i
     → roots.body.seq < last_version → (sure : IsSure roots written.held content loose)
     → IsOldOrWritten written (root_of sure.base roots) (body_block (next_body roots.body written.held written.plan))
     (free_blocks sure.base roots) sure.base image
-    → saved_of (opens image) ≡ Ok saved
+    → IsLeftBy (opens image) saved
     → IsOldOrNewImage (pages_in content written.held) roots.body.seq (as_changes written.changes) (roots.body.seq + 1) saved
 either_written size roots written content image loose saved is fits whole more sure either left =
     let held = written.held in

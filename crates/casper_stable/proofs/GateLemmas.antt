@@ -1,5 +1,5 @@
 use Rattle.std.proofs.Common.{◌≡◌, ◌∙◌, ℕ, Bool, List, [], ◌∷◌, suc, refl, sym, ap, arith}
-use Rattle.std.specs.Prelude.{Ok, slice_set}
+use Rattle.std.specs.Prelude.{slice_set}
 use Rattle.std.proofs.lemmas.List.{get_or-set_other}
 use Rattle.casper_disk.specs.Vault.{Saved}
 use Rattle.casper_space.specs.Changes.{Change, pages_of, with_changes}
@@ -12,7 +12,7 @@ use Rattle.casper_commit.proofs.StateLemmas.{stands_same}
 use Rattle.casper_map.specs.Mapped.{Mapped}
 use Rattle.casper_stable.specs.Opens.{opens, store_of, pages_in}
 use Rattle.casper_stable.specs.Kept.{Kept, image_of, roots_in}
-use Rattle.casper_stable.specs.Leaves.{saved_of}
+use Rattle.casper_stable.specs.Leaves.{IsLeftBy}
 use Rattle.casper_stable.specs.Others.{OthersKeepWords}
 use Rattle.casper_stable.specs.Sound.{IsSure, free_blocks, root_of}
 use Rattle.casper_stable.specs.UntilGate.{LeavesOldAlone, OldUntilGate, WrittenUntilGate}
@@ -23,7 +23,7 @@ use Rattle.casper_stable.specs.OpensLemmas.{map_stands, opens_old}
 -- an image that opens to the old root is the old pages with their version
 pub old_only : (roots : Roots) (held : Mapped) (content image : List (List ℕ)) (loose : ℕ → Bool) (saved : Saved)
     → (sure : IsSure roots held content loose)
-    → OpensTo (root_of sure.base roots) (free_blocks sure.base roots) sure.base image → saved_of (opens image) ≡ Ok saved
+    → OpensTo (root_of sure.base roots) (free_blocks sure.base roots) sure.base image → IsLeftBy (opens image) saved
     → saved ≡ record { image = pages_in content held; version = roots.body.seq }
 old_only roots held content image loose saved sure to left =
     let same = (map_stands sure.base content roots held sure.opens.map (stands_same roots.spare_closed

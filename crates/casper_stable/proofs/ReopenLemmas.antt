@@ -10,7 +10,7 @@ use Rattle.casper_root.specs.declared.roots.Roots.{Roots}
 use Rattle.casper_map.specs.Mapped.{Mapped}
 use Rattle.casper_map.specs.Planned.{Planned}
 use Rattle.casper_stable.specs.Kept.{Kept, changes_written, doubt_of, image_of, roots_in, roots_of}
-use Rattle.casper_stable.specs.Leaves.{Leaves, saved_of}
+use Rattle.casper_stable.specs.Leaves.{Leaves, IsLeftBy}
 use Rattle.casper_stable.specs.LeavesLemmas.{saved_is, took_saved}
 use Rattle.casper_stable.specs.Opened.{AddsNoWrites, IsRefusalOf, OpenTo}
 use Rattle.casper_stable.specs.Opens.{Store, opens, pages_in, store_at, store_of, store_with}
@@ -23,7 +23,7 @@ use Rattle.casper_stable.proofs.OpeningLemmas.{sure_opened}
 
 -- what an image that the disk may leave holds is the old pages, or those with the changes in doubt
 pub left_settled : (size : ℕ) (roots : Roots) (held : Mapped) (doubt : Option Planned) (content image : List (List ℕ)) (loose : ℕ → Bool) (saved : Saved) → IsFit size roots held doubt
-    → IsOnDisk roots held doubt content loose → AgreesBut loose content image → saved_of (opens image) ≡ Ok saved
+    → IsOnDisk roots held doubt content loose → AgreesBut loose content image → IsLeftBy (opens image) saved
     → IsOldOrNewImage (pages_in content held) roots.body.seq (changes_in (option_map (changes_written content) doubt))
     (version_settled (option_map (changes_written content) doubt) roots.body.seq) saved
 left_settled size roots held None content image loose saved fit is agrees left =

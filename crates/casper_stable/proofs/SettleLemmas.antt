@@ -1,5 +1,5 @@
 use Rattle.std.proofs.Common.{◌≡◌, ◌∙◌, ◌+◌, ◌<◌, ℕ, Bool, false, List, sym, ap, subst, inl, inr, ⊎_elim}
-use Rattle.std.specs.Prelude.{Option, Some, Ok}
+use Rattle.std.specs.Prelude.{Option, Some}
 use Rattle.casper_disk.specs.Vault.{Saved, IsOldOrNewImage}
 use Rattle.casper_space.specs.Changes.{last_version, with_changes}
 use Rattle.casper_root.specs.Fitting.{Fits}
@@ -13,7 +13,7 @@ use Rattle.casper_map.specs.PlanLaws.{IsWhole}
 use Rattle.casper_map.specs.Planned.{Planned, IsPlan}
 use Rattle.casper_stable.specs.Opens.{opens, store_of, pages_in}
 use Rattle.casper_stable.specs.Kept.{next_body, changes_written}
-use Rattle.casper_stable.specs.Leaves.{saved_of}
+use Rattle.casper_stable.specs.Leaves.{IsLeftBy}
 use Rattle.casper_stable.specs.Sound.{IsDoubtful, IsOnDisk, free_blocks, root_of}
 use Rattle.casper_stable.specs.LeavesLemmas.{saved_is}
 use Rattle.casper_stable.specs.OpensLemmas.{map_stands, opens_old, opens_next, opens_to_next, written_stand}
@@ -61,7 +61,7 @@ pub settled_either : (size : ℕ) (roots : Roots) (held : Mapped) (plan : Planne
     → Bool) (saved : Saved) → Fits size roots → IsWhole roots held → IsPlan held plan
     → roots.body.seq < last_version → (is : IsDoubtful roots held plan content loose)
     → IsOldOrNew (root_of is.base roots) (body_block (next_body roots.body held plan)) (free_blocks is.base roots) is.base content image
-    → saved_of (opens image) ≡ Ok saved
+    → IsLeftBy (opens image) saved
     → IsOldOrNewImage (pages_in content held) roots.body.seq (changes_written content plan) (roots.body.seq + 1) saved
 settled_either size roots held plan content image loose saved fits whole planned more is either left =
     let same = (map_stands is.base content roots held is.opens.map is.gate.same).1 in

@@ -1,19 +1,20 @@
-use Rattle.std.specs.Prelude.{◌≡◌, ◌≤◌, ℕ, Bool, IsTrue, List, Result, Ok, Err}
+use Rattle.std.specs.Prelude.{◌≡◌, ◌≤◌, ℕ, Bool, IsTrue, List, Result, Ok, Err, ⊤}
 use Rattle.casper_disk.specs.Vault.{Saved}
 use Rattle.casper_root.specs.declared.fault.OpenFault.{OpenFault}
 use Rattle.casper_stable.specs.Opens.{Store, opens}
 use Rattle.casper_stable.specs.Kept.{Kept}
 
--- the pages of a store with their version
-abbrev pub saved_of : Result Store OpenFault → Result Saved OpenFault
-saved_of (Err refusal) = Err refusal
-saved_of (Ok store) = Ok store.saved
+-- what blocks leave that open so: their pages with their version. Blocks that are refused might leave anything, so each fact of all
+-- that may be left says too that none is refused
+abbrev pub IsLeftBy : Result Store OpenFault → Saved → Type 0
+IsLeftBy (Ok store) saved = saved ≡ store.saved
+IsLeftBy (Err refusal) saved = ⊤
 
--- one of these images of a disk opens to pages with this version
+-- one of these images of a disk leaves pages with this version
 pub record Leaves (images : List (List ℕ) → Type 0) (saved : Saved) : Type 0 where
   pub blocks : List (List ℕ)
   pub left : images blocks
-  pub opens : saved_of (opens blocks) ≡ Ok saved
+  pub leaves : IsLeftBy (opens blocks) saved
 
 -- what each call of a store keeps: its disk leads to the later one, its sizes stay, and where the disk tells what it holds, the version
 -- never falls

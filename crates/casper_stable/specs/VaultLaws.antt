@@ -18,15 +18,15 @@ use Rattle.casper_map.specs.Mapped.{Mapped, page_count, page_frames}
 use Rattle.casper_map.specs.Planned.{Planned}
 use Rattle.casper_stable.specs.Opens.{Store, opens, store_of, pages_in}
 use Rattle.casper_stable.specs.Kept.{Kept, roots_in, image_of, doubt_of, changes_written}
-use Rattle.casper_stable.specs.Leaves.{Leaves, KeptLeadsTo, saved_of}
+use Rattle.casper_stable.specs.Leaves.{Leaves, KeptLeadsTo, IsLeftBy}
 use Rattle.casper_stable.specs.Sound.{IsFit, IsOnDisk, IsHeld, IsKept}
-use Rattle.casper_stable.specs.LeavesLemmas.{saved_is}
+use Rattle.casper_stable.specs.LeavesLemmas.{saved_is, leaves_its}
 use Rattle.casper_stable.specs.SoundLemmas.{sure_image, doubtful_image}
 
 -- with more images more is left
 pub leaves_more : {images more : List (List ℕ) → Type 0} {saved : Saved} → ((blocks : List (List ℕ)) → images blocks → more blocks)
     → Leaves images saved → Leaves more saved
-leaves_more wider left = record { blocks = left.blocks; left = wider left.blocks left.left; opens = left.opens }
+leaves_more wider left = record { blocks = left.blocks; left = wider left.blocks left.left; leaves = left.leaves }
 
 -- there are as many pages as places for them
 pub image_count : (content : List (List ℕ)) (held : Mapped) → page_count held ≡ length (pages_in content held)
@@ -54,7 +54,7 @@ saved_code =
 left_either : (size : ℕ) (roots : Roots) (held : Mapped) (doubt : Option Planned) (content blocks : List (List ℕ)) (loose : ℕ
     → Bool) (changes : List Change) (saved : Saved) → IsFit size roots held doubt
     → IsOnDisk roots held doubt content loose → AgreesBut loose content blocks
-    → option_map (changes_written content) doubt ≡ Some changes → saved_of (opens blocks) ≡ Ok saved
+    → option_map (changes_written content) doubt ≡ Some changes → IsLeftBy (opens blocks) saved
     → IsOldOrNewImage (pages_in content held) roots.body.seq changes (roots.body.seq + 1) saved
 left_either size roots held None content blocks loose changes saved fit is agrees some left = absurd (none-some changes some)
 left_either size roots held (Some plan) content blocks loose changes saved fit is agrees some left =
@@ -65,7 +65,7 @@ left_either size roots held (Some plan) content blocks loose changes saved fit i
 
 left_old : (roots : Roots) (held : Mapped) (doubt : Option Planned) (content blocks : List (List ℕ)) (loose : ℕ → Bool) (saved : Saved)
     → IsOnDisk roots held doubt content loose → AgreesBut loose content blocks → option_map (changes_written content) doubt ≡ None
-    → saved_of (opens blocks) ≡ Ok saved
+    → IsLeftBy (opens blocks) saved
     → saved ≡ record { image = pages_in content held; version = roots.body.seq }
 left_old roots held None content blocks loose saved is agrees none left = saved_is blocks (store_of content roots held) saved
     (sure_image roots held content blocks loose is agrees) left
@@ -96,7 +96,7 @@ pub sure_law : {D : Type 0} (size : D → ℕ) (tells : Bool) (content : D → L
 sure_law size tells content loose images_now kept agree stands told none saved left =
     ∥∥₁_elim stands (Coded-set saved_code _ _)
     (λ both. left_old (roots_in kept) kept.held kept.doubt (content kept.disk) left.blocks (loose kept.disk) saved (both.1 told)
-    (agree left.blocks left.left) none left.opens)
+    (agree left.blocks left.left) none left.leaves)
 
 -- in doubt it leaves that, or the image with the changes and the next version
 pub either_law : {D : Type 0} (size : D → ℕ) (tells : Bool) (content : D → List (List ℕ)) (loose : D → ℕ → Bool) (images_now : D
@@ -117,12 +117,12 @@ either_law size tells content loose images_now kept agree stands told changes so
     either : IsKept size kept × IsHeld tells content loose kept
         → IsOldOrNewImage (image_of content kept) kept.body.seq changes (kept.body.seq + 1) saved
     either both = left_either (size kept.disk) (roots_in kept) kept.held kept.doubt (content kept.disk) left.blocks
-        (loose kept.disk) changes saved both.0 (both.1 told) (agree left.blocks left.left) some left.opens
+        (loose kept.disk) changes saved both.0 (both.1 told) (agree left.blocks left.left) some left.leaves
 
 one_of : {images : List (List ℕ) → Type 0} (content : List (List ℕ)) (found : Result Store OpenFault) → images content
     → opens content ≡ found → (((store : Store) → found ≡ Ok store → ⊥) → ⊥)
     → (saved : Saved) × Leaves images saved
-one_of content (Ok store) image is some = (store.saved, record { blocks = content; left = image; opens = ap saved_of is })
+one_of content (Ok store) image is some = (store.saved, record { blocks = content; left = image; leaves = leaves_its content store store.saved is refl })
 one_of content (Err refusal) image is some = absurd (some (λ store same. cc))
 
 -- a stop leaves something

@@ -2,6 +2,7 @@ ghost use Rattle.std.specs.Prelude.{◌≡◌, ◌≤◌, None, Ok, Err, IsTrue,
 ghost use Rattle.casper_words.specs.Count.{FaultCountRose};
 ghost use Rattle.casper_disk.specs.Disk.{none_loose, IsLooseWithin};
 ghost use Rattle.casper_root.specs.Reading.{IsOnlyRead};
+ghost use Rattle.casper_map.specs.Mapped.{page_count};
 ghost use Rattle.casper_stable.specs.Opened.{shown, IsRefusalOf, DiskMeets, OpenTo, AddsNoWrites};
 ghost use Rattle.casper_stable.specs.Kept.{roots_in};
 ghost use Rattle.casper_stable.specs.KeptBy.{kept_by};
@@ -36,6 +37,7 @@ impl<D: Disk> Stable<D> {
         ensures refused { IsTrue D.tells →
             IfErr result (λ refused. IsRefusalOf (opens (D.content disk)) refused.1) }
         ensures sure { IfOk result (λ stable. (kept_by stable).doubt ≡ None) }
+        ensures most { IfOk result (λ stable. page_count (kept_by stable).held ≤ 16384) }
         ensures size { DiskMeets (λ stable. (kept_by stable).disk) result
             (λ after. D.size after ≡ D.size disk) }
         ensures leads { DiskMeets (λ stable. (kept_by stable).disk) result

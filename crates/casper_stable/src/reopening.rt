@@ -5,7 +5,7 @@ ghost use Rattle.casper_disk.specs.Vault.{IsOldOrNewImage, changes_in, version_s
 ghost use Rattle.casper_map.specs.Mapped.{page_count};
 ghost use Rattle.casper_reopen.specs.Reopening.{IsOfTheOutside};
 ghost use Rattle.casper_stable.specs.Kept.{doubt_of, image_of};
-ghost use Rattle.casper_stable.specs.Leaves.{Leaves, saved_of};
+ghost use Rattle.casper_stable.specs.Leaves.{Leaves};
 ghost use Rattle.casper_stable.specs.Opened.{shown};
 ghost use Rattle.casper_stable.specs.Opens.{opens};
 ghost use Rattle.casper_stable.specs.Sound.{IsHeld, IsKept};

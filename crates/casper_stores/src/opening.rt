@@ -3,6 +3,7 @@ ghost use Rattle.casper_words.specs.Count.{FaultCountRose};
 ghost use Rattle.casper_disk.specs.Disk.{none_loose, IsLooseWithin};
 ghost use Rattle.casper_disk.specs.Handed.{faults_since, faults_with};
 ghost use Rattle.casper_disk.specs.Place.{Out, Standing, is_standing};
+ghost use Rattle.casper_map.specs.Mapped.{page_count};
 ghost use Rattle.casper_report.specs.declared.refusal.Refusal.{Refusal};
 ghost use Rattle.casper_stable.specs.KeptBy.{kept_by};
 ghost use Rattle.casper_stable.specs.Opened.{shown, AddsNoWrites};
@@ -32,6 +33,7 @@ pub fn open_store<H: Shelf>(
         store_under H.Disk.content (H.place shelf.old name.now)
         ≡ Ok (shown H.Disk.content (kept_by store))) }
     ensures sure { IfOk result (λ store. (kept_by store).doubt ≡ None) }
+    ensures most { IfOk result (λ store. page_count (kept_by store).held ≤ 16384) }
     ensures settled { IsTrue H.tells
         → IfOk result (λ store. H.Disk.loose (kept_by store).disk ≡ none_loose) }
     ensures content { IsTrue H.tells → DiskGoesOn (SameContent H.Disk.content)
