@@ -1,4 +1,4 @@
-use Rattle.std.proofs.Common.{◌≡◌, ◌+◌, ◌-◌, ◌^◌, ◌≤◌, arith, ℕ, Bool, true, false, cond, List, [], ◌∷◌, ◌++◌, Option, Some, None, ap, ap₂, sym, subst, ◌∙◌, refl, length, length-append, true≢false}
+use Rattle.std.proofs.Common.{◌≡◌, ◌+◌, ◌-◌, ◌^◌, ◌≤◌, arith, ℕ, Bool, true, false, cond, List, [], ◌∷◌, ◌++◌, Option, Some, None, ap, ap₂, sym, subst, ◌∙◌, refl, length, length-append, append_assoc, true≢false}
 use Rattle.std.specs.Prelude.{IsTrue, min, is_some, option_to_list}
 use Rattle.std.specs.List.{cons_option}
 use Rattle.std.proofs.lemmas.List.{append-nil}
@@ -8,17 +8,24 @@ use Rattle.casper_trail.specs.TrailView.{commit_count, rollback_count}
 use Rattle.casper_space.specs.declared.answer.Answer.{Answer}
 use Rattle.casper_space.specs.declared.answer.Answer.TheVariants as answer
 use Rattle.casper_report.specs.declared.summary.Summary.{Summary}
+use Rattle.casper_disk.specs.Disk.{Took}
+use Rattle.casper_disk.specs.Vault.{Saved, IsOldOrNewImage, changes_in, version_settled}
+use Rattle.casper_disk.proofs.TookLemmas.{took_weaker, took_then}
 use Rattle.casper_model.specs.Own as machine
 use Rattle.casper_model.specs.declared.event.Event.{Event}
 use Rattle.casper_model.specs.State.{State, own_at, start}
 use Rattle.casper_model.specs.Vault.{VaultState}
 use Rattle.casper_hub.specs.Shows.{Shows}
 use Rattle.casper_sessions.specs.Chain.{IsFound}
+use Rattle.casper_sessions.specs.Moments.{moment_of}
+use Rattle.casper_sessions.specs.Within.{IsLeftOf}
 use Rattle.casper_core.specs.CoreView.{CoreView, cache_at}
+use Rattle.casper_core.specs.Leaving.{Adds, IsLeftBefore, IsLeftDuring}
 use Rattle.casper_core.specs.Shaped.{RepresentsButWords, StepsInShape, IsMade}
 use Rattle.casper_core.specs.Represents.{Represents, own_part}
 use Rattle.casper_core.specs.Sound.{IsSound}
 use Rattle.casper_core.specs.Stepping.{Steps, IsAnswered, IsUnchanged, is_fault, completes, counted}
+use Rattle.casper_core.proofs.LeftLemmas.{left_settling, within_of_left}
 use Rattle.casper_core.proofs.ReplayRuns.{rose_more}
 use Rattle.casper_core.proofs.ShapedRuns.{shape_unchanged}
 use Rattle.casper_app.specs.declared.end.End.TheVariants as end
@@ -27,8 +34,9 @@ use Rattle.casper_app.specs.declared.schedule.Asked.{Asked}
 use Rattle.casper_app.specs.declared.schedule.Asked.TheVariants as asks
 use Rattle.casper_app.specs.declared.sessions.Sessions.{Sessions}
 use Rattle.casper_app.specs.Play.{Rules, Standing, Takes, Plays, begun_again, past_with, added, by_machine, in_shape, calls_in, completes_call, summary_of}
-use Rattle.casper_app.specs.Carrying.{StandsBy, TakesBy, PlaysBy, StaysBy, MakesStep, MakesNone, Carries, summary_in}
+use Rattle.casper_app.specs.Carrying.{StandsBy, TakesBy, PlaysBy, StaysBy, LeavesWhile, LeavesAmong, MakesStep, MakesNone, Carries, summary_in}
 use Rattle.casper_app.specs.Comes.{TellsOf, TellsButVersion}
+use Rattle.casper_app.specs.Leaving.{IsLeftWhile, IsLeftAmong}
 use Rattle.casper_app.specs.Lines.{asked_of_line, asked_in}
 use Rattle.casper_app.specs.Taking.{CarriesLine}
 
@@ -68,21 +76,150 @@ plays_still : {V : Type 0} (rules : Rules) (IsOf : State → CoreView V → Type
 plays_still rules IsOf asked given first middle last plays stays standing stands =
     let run = plays standing stands in (run.0, run.1, stays run.0 run.2)
 
+-- What a stop leaves while things are asked for, one after another.
+
+-- what is left at the moment of a state is left while anything is carried out from there
+while_of_left : (state : State) (one : Asked) (array : List (List ℕ)) → IsLeftOf state (moment_of state) array → IsLeftWhile state (one ∷ []) array
+while_of_left state (asks.Event event) array left = within_of_left event state array left
+while_of_left state asks.Reopen array left = left
+
+-- more that is asked for later changes nothing, but where nothing else was asked for
+while_more : (state : State) (rest : List Asked) (one : Asked) (array : List (List ℕ)) → IsLeftWhile state rest array → IsLeftWhile state (rest ++ one ∷ []) array
+while_more state [] one array left = while_of_left state one array left
+while_more state (asks.Event event ∷ rest) one array left = left
+while_more state (asks.Reopen ∷ rest) one array left = left
+
+among_more : (entries : ℕ) (first : Standing) (asked : List Asked) (given : List Answer) (one : Asked) (said : Answer) (array : List (List ℕ))
+    → IsLeftAmong entries first asked given array → IsLeftAmong entries first (asked ++ one ∷ []) (given ++ said ∷ []) array
+among_more entries first asked given one said array among = record {
+  before = among.before;
+  rest = among.rest ++ one ∷ [];
+  asked_is = ap (λ (all : List Asked). all ++ one ∷ []) among.asked_is ∙ append_assoc among.before among.rest (one ∷ []);
+  said = among.said;
+  more = among.more ++ said ∷ [];
+  given_is = ap (λ (all : List Answer). all ++ said ∷ []) among.given_is ∙ append_assoc among.said among.more (said ∷ []);
+  standing = among.standing;
+  plays = among.plays;
+  left = while_more among.standing.state among.rest one array among.left;
+}
+
+module _ {V : Type 0} (moment : V → ℕ) (since : V → ℕ → Saved → Type 0) (asked : List Asked) (given : List Answer) where
+  -- where nothing was asked for yet
+  leaves_none : (sessions : Sessions V) → Adds moment since sessions.core.vault sessions.core.vault (IsLeftBefore sessions.core)
+      → Adds moment since sessions.core.vault sessions.core.vault (LeavesAmong [] [] sessions)
+  leaves_none sessions nothing =
+      took_weaker (moment sessions.core.vault) (moment sessions.core.vault) (since sessions.core.vault) (since sessions.core.vault) (IsLeftBefore sessions.core) (LeavesAmong [] [] sessions)
+      (λ saved left standing stands. record {
+        before = [];
+        rest = [];
+        asked_is = refl;
+        said = [];
+        more = [];
+        given_is = refl;
+        standing = standing;
+        plays = refl;
+        left = left standing.state stands.state;
+      })
+      nothing
+
+  module _ (first middle last : Sessions V) (counts : (earlier later : ℕ) (saved : Saved) → earlier ≤ later → since last.core.vault later saved → since last.core.vault earlier saved)
+      (plays : PlaysBy by_machine Represents asked given first middle) (before : Adds moment since first.core.vault middle.core.vault (LeavesAmong asked given first)) where
+    -- one thing more
+    leaves_more : (one : Asked) (said : Answer) → Adds moment since middle.core.vault last.core.vault (LeavesWhile (one ∷ []) middle)
+        → Adds moment since first.core.vault last.core.vault (LeavesAmong (asked ++ one ∷ []) (given ++ said ∷ []) first)
+    leaves_more one said next =
+        took_then (moment first.core.vault) (moment middle.core.vault) (moment last.core.vault) (since first.core.vault) (since middle.core.vault) (since last.core.vault)
+        (LeavesAmong (asked ++ one ∷ []) (given ++ said ∷ []) first) counts
+        (took_weaker (moment first.core.vault) (moment middle.core.vault) (since first.core.vault) (since middle.core.vault) (LeavesAmong asked given first)
+        (LeavesAmong (asked ++ one ∷ []) (given ++ said ∷ []) first)
+        (λ saved left standing stands. among_more first.entries standing asked given one said saved.image (left standing stands))
+        before)
+        (took_weaker (moment middle.core.vault) (moment last.core.vault) (since middle.core.vault) (since last.core.vault) (LeavesWhile (one ∷ []) middle)
+        (LeavesAmong (asked ++ one ∷ []) (given ++ said ∷ []) first)
+        (λ saved left standing stands. let run = plays standing stands in record {
+          before = asked;
+          rest = one ∷ [];
+          asked_is = refl;
+          said = given;
+          more = said ∷ [];
+          given_is = refl;
+          standing = run.0;
+          plays = run.1;
+          left = left run.0 run.2;
+        })
+        next)
+
+    -- nothing more
+    leaves_still : Adds moment since middle.core.vault last.core.vault (LeavesWhile [] middle) → Adds moment since first.core.vault last.core.vault (LeavesAmong asked given first)
+    leaves_still next =
+        took_then (moment first.core.vault) (moment middle.core.vault) (moment last.core.vault) (since first.core.vault) (since middle.core.vault) (since last.core.vault)
+        (LeavesAmong asked given first) counts before
+        (took_weaker (moment middle.core.vault) (moment last.core.vault) (since middle.core.vault) (since last.core.vault) (LeavesWhile [] middle) (LeavesAmong asked given first)
+        (λ saved left standing stands. let run = plays standing stands in record {
+          before = asked;
+          rest = [];
+          asked_is = sym (append-nil asked);
+          said = given;
+          more = [];
+          given_is = sym (append-nil given);
+          standing = run.0;
+          plays = run.1;
+          left = left run.0 run.2;
+        })
+        next)
+
+-- what is left before the step of an event or within it is left while that is carried out
+leaves_before : {V : Type 0} (moment : V → ℕ) (since : V → ℕ → Saved → Type 0) (old : Sessions V) (after : V) → Adds moment since old.core.vault after (IsLeftBefore old.core)
+    → Adds moment since old.core.vault after (LeavesWhile [] old)
+leaves_before moment since old after adds =
+    took_weaker (moment old.core.vault) (moment after) (since old.core.vault) (since after) (IsLeftBefore old.core) (LeavesWhile [] old)
+    (λ saved left standing stands. left standing.state stands.state) adds
+
+leaves_during : {V : Type 0} (moment : V → ℕ) (since : V → ℕ → Saved → Type 0) (event : Event) (old : Sessions V) (after : V) → Adds moment since old.core.vault after (IsLeftDuring event old.core)
+    → Adds moment since old.core.vault after (LeavesWhile (asks.Event event ∷ []) old)
+leaves_during moment since event old after adds =
+    took_weaker (moment old.core.vault) (moment after) (since old.core.vault) (since after) (IsLeftDuring event old.core) (LeavesWhile (asks.Event event ∷ []) old)
+    (λ saved left standing stands. left standing.state stands.state) adds
+
+leaves_reopening : {V : Type 0} (moment : V → ℕ) (since : V → ℕ → Saved → Type 0) (old : Sessions V) (after : V) → Adds moment since old.core.vault after (IsLeftBefore old.core)
+    → Adds moment since old.core.vault after (LeavesWhile (asks.Reopen ∷ []) old)
+leaves_reopening moment since old after adds =
+    took_weaker (moment old.core.vault) (moment after) (since old.core.vault) (since after) (IsLeftBefore old.core) (LeavesWhile (asks.Reopen ∷ []) old)
+    (λ saved left standing stands. left standing.state stands.state) adds
+
+-- what an opening adds
+abbrev Settles : {V : Type 0} → (V → ℕ) → (V → ℕ → Saved → Type 0) → VaultState → V → V → Type 0
+Settles moment since told before after =
+    Took (moment before) (moment after) (since before) (since after) (IsOldOrNewImage told.image told.version (changes_in told.doubt) (version_settled told.doubt told.version))
+
+leaves_settling : {V : Type 0} (moment : V → ℕ) (since : V → ℕ → Saved → Type 0) (old : Sessions V) (told : VaultState) (after : V) → old.core.told ≡ told
+    → Settles moment since told old.core.vault after → Adds moment since old.core.vault after (IsLeftBefore old.core)
+leaves_settling moment since old told after same settles =
+    took_weaker (moment old.core.vault) (moment after) (since old.core.vault) (since after)
+    (IsOldOrNewImage told.image told.version (changes_in told.doubt) (version_settled told.doubt told.version)) (IsLeftBefore old.core)
+    (λ saved is. left_settling old.core saved
+    (subst (λ (v : VaultState). IsOldOrNewImage v.image v.version (changes_in v.doubt) (version_settled v.doubt v.version) saved) (sym same) is))
+    settles
+
 -- before anything is asked for
-pub carries_none : {V : Type 0} (tells : Bool) (faults : V → ℕ) (sessions : Sessions V) → sessions.core.calls ≡ 0 → Carries tells faults [] [] sessions sessions
-carries_none tells faults sessions calls = record {
+pub carries_none : {V : Type 0} (tells : Bool) (faults moment : V → ℕ) (since : V → ℕ → Saved → Type 0) (sessions : Sessions V)
+    → (IsTrue tells → Adds moment since sessions.core.vault sessions.core.vault (IsLeftBefore sessions.core)) → sessions.core.calls ≡ 0 → Carries tells faults moment since [] [] sessions sessions
+carries_none tells faults moment since sessions nothing calls = record {
   each = refl;
   plays = λ told standing stands. (standing, refl, stands);
   shape = λ standing stands. (standing, refl, stands);
   failures = omega arith;
   calls = omega (arith, calls);
   entries = refl;
+  images = λ told. leaves_none moment since [] [] sessions (nothing told);
 }
 
 -- one thing more
-pub carries_more : {V : Type 0} (tells : Bool) (faults : V → ℕ) (asked : List Asked) (given : List Answer) (one : Asked) (said : Answer) (first middle last : Sessions V)
-    → Carries tells faults asked given first middle → MakesStep tells faults one said middle last → Carries tells faults (asked ++ one ∷ []) (given ++ said ∷ []) first last
-carries_more tells faults asked given one said first middle last carries step = record {
+pub carries_more : {V : Type 0} (tells : Bool) (faults moment : V → ℕ) (since : V → ℕ → Saved → Type 0)
+    (counts : (vault : V) (earlier later : ℕ) (saved : Saved) → IsTrue tells → earlier ≤ later → since vault later saved → since vault earlier saved)
+    (asked : List Asked) (given : List Answer) (one : Asked) (said : Answer) (first middle last : Sessions V)
+    → Carries tells faults moment since asked given first middle → MakesStep tells faults moment since one said middle last → Carries tells faults moment since (asked ++ one ∷ []) (given ++ said ∷ []) first last
+carries_more tells faults moment since counts asked given one said first middle last carries step = record {
   each = length-append given (said ∷ []) ∙ ap (λ (n : ℕ). n + 1) carries.each ∙ sym (length-append asked (one ∷ []));
   plays = λ told. plays_then by_machine Represents asked given one said first middle last carries.entries (carries.plays told) (step.step told);
   shape = plays_then in_shape RepresentsButWords asked given one said first middle last carries.entries carries.shape step.shape;
@@ -91,18 +228,26 @@ carries_more tells faults asked given one said first middle last carries step = 
       step.calls ∙ ap (counted (completes_call one said)) carries.calls ∙ count_one (completes_call one said) first.core.calls (calls_in asked given)
       ∙ ap (λ (n : ℕ). min (first.core.calls + n) (2 ^ 64 - 1)) (sym (calls_more asked given one said carries.each));
   entries = step.entries ∙ carries.entries;
+  images = λ told.
+      leaves_more moment since asked given first middle last (λ earlier later saved order left. counts last.core.vault earlier later saved told order left)
+      (carries.plays told) (carries.images told) one said (step.images told);
 }
 
 -- nothing more
-pub carries_still : {V : Type 0} (tells : Bool) (faults : V → ℕ) (asked : List Asked) (given : List Answer) (first middle last : Sessions V)
-    → Carries tells faults asked given first middle → MakesNone tells faults middle last → Carries tells faults asked given first last
-carries_still tells faults asked given first middle last carries none = record {
+pub carries_still : {V : Type 0} (tells : Bool) (faults moment : V → ℕ) (since : V → ℕ → Saved → Type 0)
+    (counts : (vault : V) (earlier later : ℕ) (saved : Saved) → IsTrue tells → earlier ≤ later → since vault later saved → since vault earlier saved)
+    (asked : List Asked) (given : List Answer) (first middle last : Sessions V)
+    → Carries tells faults moment since asked given first middle → MakesNone tells faults moment since middle last → Carries tells faults moment since asked given first last
+carries_still tells faults moment since counts asked given first middle last carries none = record {
   each = carries.each;
   plays = λ told. plays_still by_machine Represents asked given first middle last (carries.plays told) (none.stands told);
   shape = plays_still in_shape RepresentsButWords asked given first middle last carries.shape none.shape;
   failures = omega (arith, carries.failures, none.never_falls);
   calls = none.calls ∙ carries.calls;
   entries = none.entries ∙ carries.entries;
+  images = λ told.
+      leaves_still moment since asked given first middle last (λ earlier later saved order left. counts last.core.vault earlier later saved told order left)
+      (carries.plays told) (carries.images told) (none.images told);
 }
 
 -- what a line's answer was, where it has one
@@ -111,15 +256,17 @@ none_asked None test = refl
 none_asked (Some asked) test = cc
 
 -- one line more
-pub carries_line : {V : Type 0} (tells : Bool) (faults : V → ℕ) (asked : List Asked) (given : List Answer) (line : List ℕ) (one : Option Answer) (first middle last : Sessions V)
-    → Carries tells faults asked given first middle → CarriesLine tells faults line one middle last → is_some one ≡ is_some (asked_of_line line)
-    → Carries tells faults (asked ++ asked_in (line ∷ [])) (given ++ option_to_list one) first last
-carries_line tells faults asked given line None first middle last carries none test =
-    subst (λ (e : List Asked). Carries tells faults e (given ++ []) first last) (sym (ap (λ (found : Option Asked). asked ++ cons_option found []) (none_asked (asked_of_line line) test) ∙ append-nil asked))
-    (subst (λ (a : List Answer). Carries tells faults asked a first last) (sym (append-nil given)) (carries_still tells faults asked given first middle last carries none))
-carries_line tells faults asked given line (Some one) first middle last carries step test =
-    subst (λ (e : List Asked). Carries tells faults e (given ++ one ∷ []) first last) (sym (ap (λ (found : Option Asked). asked ++ cons_option found []) step.1))
-    (carries_more tells faults asked given step.0 one first middle last carries step.2)
+pub carries_line : {V : Type 0} (tells : Bool) (faults moment : V → ℕ) (since : V → ℕ → Saved → Type 0)
+    (counts : (vault : V) (earlier later : ℕ) (saved : Saved) → IsTrue tells → earlier ≤ later → since vault later saved → since vault earlier saved)
+    (asked : List Asked) (given : List Answer) (line : List ℕ) (one : Option Answer) (first middle last : Sessions V)
+    → Carries tells faults moment since asked given first middle → CarriesLine tells faults moment since line one middle last → is_some one ≡ is_some (asked_of_line line)
+    → Carries tells faults moment since (asked ++ asked_in (line ∷ [])) (given ++ option_to_list one) first last
+carries_line tells faults moment since counts asked given line None first middle last carries none test =
+    subst (λ (e : List Asked). Carries tells faults moment since e (given ++ []) first last) (sym (ap (λ (found : Option Asked). asked ++ cons_option found []) (none_asked (asked_of_line line) test) ∙ append-nil asked))
+    (subst (λ (a : List Answer). Carries tells faults moment since asked a first last) (sym (append-nil given)) (carries_still tells faults moment since counts asked given first middle last carries none))
+carries_line tells faults moment since counts asked given line (Some one) first middle last carries step test =
+    subst (λ (e : List Asked). Carries tells faults moment since e (given ++ one ∷ []) first last) (sym (ap (λ (found : Option Asked). asked ++ cons_option found []) step.1))
+    (carries_more tells faults moment since counts asked given step.0 one first middle last carries step.2)
 
 completed_few : (asked : List Asked) (given : List Answer) → calls_in asked given ≤ length given
 completed_few asked [] = omega arith
@@ -156,38 +303,39 @@ summed lines calls past items version = record {
 }
 
 -- what sessions tell is what the last line is to tell, but for the version
-told_but_version : {V : Type 0} (tells : Bool) (faults : V → ℕ) (lines : List (List ℕ)) (given : List Answer) (first last : Sessions V) (standing : Standing) (count : ℕ)
-    → Carries tells faults (asked_in lines) given first last → first.core.calls ≡ 0 → length lines ≤ 1048576 → length lines ≡ count
+told_but_version : {V : Type 0} (tells : Bool) (faults moment : V → ℕ) (since : V → ℕ → Saved → Type 0) (lines : List (List ℕ)) (given : List Answer) (first last : Sessions V) (standing : Standing) (count : ℕ)
+    → Carries tells faults moment since (asked_in lines) given first last → first.core.calls ≡ 0 → length lines ≤ 1048576 → length lines ≡ count
     → last.past ≡ standing.past → last.core.hub.trail ≡ standing.state.shared.trail
     → summary_in count last ≡ record (summary_of (length lines) (asked_in lines) given standing) { version = last.core.told.version }
 unfolding summed
-told_but_version tells faults lines given first last standing count carries none few all past trail =
+told_but_version tells faults moment since lines given first last standing count carries none few all past trail =
     let calls : last.core.calls ≡ calls_in (asked_in lines) given = calls_counted lines given first.core.calls last.core.calls carries.each few none carries.calls in
     ap (λ (n : ℕ). summed n last.core.calls last.past last.core.hub.trail last.core.told.version) (sym all)
     ∙ ap (λ (k : ℕ). summed (length lines) k last.past last.core.hub.trail last.core.told.version) calls
     ∙ ap (λ (p : Past). summed (length lines) (calls_in (asked_in lines) given) p last.core.hub.trail last.core.told.version) past
     ∙ ap (λ (t : List Item). summed (length lines) (calls_in (asked_in lines) given) standing.past t last.core.told.version) trail
 
-pub shape_told : {V : Type 0} (tells : Bool) (faults : V → ℕ) (lines : List (List ℕ)) (given : List Answer) (first last : Sessions V) (standing : Standing) (count : ℕ)
-    → Carries tells faults (asked_in lines) given first last → first.core.calls ≡ 0 → length lines ≤ 1048576 → length lines ≡ count
+pub shape_told : {V : Type 0} (tells : Bool) (faults moment : V → ℕ) (since : V → ℕ → Saved → Type 0) (lines : List (List ℕ)) (given : List Answer) (first last : Sessions V) (standing : Standing) (count : ℕ)
+    → Carries tells faults moment since (asked_in lines) given first last → first.core.calls ≡ 0 → length lines ≤ 1048576 → length lines ≡ count
     → StandsBy RepresentsButWords standing last → TellsButVersion (end.Done (summary_in count last)) (summary_of (length lines) (asked_in lines) given standing)
-shape_told tells faults lines given first last standing count carries none few all stands =
-    told_but_version tells faults lines given first last standing count carries none few all stands.past (sym stands.state.shared.trail)
+shape_told tells faults moment since lines given first last standing count carries none few all stands =
+    told_but_version tells faults moment since lines given first last standing count carries none few all stands.past (sym stands.state.shared.trail)
 
-pub summary_told : {V : Type 0} (tells : Bool) (faults : V → ℕ) (lines : List (List ℕ)) (given : List Answer) (first last : Sessions V) (standing : Standing) (count : ℕ)
-    → Carries tells faults (asked_in lines) given first last → first.core.calls ≡ 0 → length lines ≤ 1048576 → length lines ≡ count
+pub summary_told : {V : Type 0} (tells : Bool) (faults moment : V → ℕ) (since : V → ℕ → Saved → Type 0) (lines : List (List ℕ)) (given : List Answer) (first last : Sessions V) (standing : Standing) (count : ℕ)
+    → Carries tells faults moment since (asked_in lines) given first last → first.core.calls ≡ 0 → length lines ≤ 1048576 → length lines ≡ count
     → StandsBy Represents standing last → TellsOf (end.Done (summary_in count last)) (summary_of (length lines) (asked_in lines) given standing)
 unfolding summed
-summary_told tells faults lines given first last standing count carries none few all stands =
-    told_but_version tells faults lines given first last standing count carries none few all stands.past (sym stands.state.parts.shared.trail)
+summary_told tells faults moment since lines given first last standing count carries none few all stands =
+    told_but_version tells faults moment since lines given first last standing count carries none few all stands.past (sym stands.state.parts.shared.trail)
     ∙ ap (λ (v : VaultState). summed (length lines) (calls_in (asked_in lines) given) standing.past standing.state.shared.trail v.version) (sym stands.state.parts.vault)
 
 -- an event was carried out
-pub event_step : {V : Type 0} (tells : Bool) (faults : V → ℕ) (event : Event) (given : Answer) (old : Sessions V) (after : CoreView V)
+pub event_step : {V : Type 0} (tells : Bool) (faults moment : V → ℕ) (since : V → ℕ → Saved → Type 0) (event : Event) (given : Answer) (old : Sessions V) (after : CoreView V)
     → (IsTrue tells → Steps event given old.core after) → StepsInShape event given old.core after
     → (IsTrue (is_fault given) → FaultCountRose (faults old.core.vault) (faults after.vault)) → faults old.core.vault ≤ faults after.vault
-    → after.calls ≡ counted (completes event given) old.core.calls → MakesStep tells faults (asks.Event event) given old (record old { core = after })
-event_step tells faults event given old after steps shape fault falls calls = record {
+    → after.calls ≡ counted (completes event given) old.core.calls → (IsTrue tells → Adds moment since old.core.vault after.vault (IsLeftDuring event old.core))
+    → MakesStep tells faults moment since (asks.Event event) given old (record old { core = after })
+event_step tells faults moment since event given old after steps shape fault falls calls images = record {
   step = λ told standing stands.
       let made : IsAnswered standing.state event given after = steps told standing.state stands.state in
       (record standing { state = by_machine.after standing.state event given }, (record { outside_fits = made.outside_fits; answers = made.answers }, refl), record { state = made.stands; past = stands.past });
@@ -198,29 +346,55 @@ event_step tells faults event given old after steps shape fault falls calls = re
   never_falls = falls;
   calls = calls;
   entries = refl;
+  images = λ told. leaves_during moment since event old after.vault (images told);
 }
 
 -- or it was not, and nothing has changed
-pub event_none : {V : Type 0} (tells : Bool) (faults : V → ℕ) (old : Sessions V) (after : CoreView V) → (IsTrue tells → (state : State) → Represents state old.core → Represents state after)
-    → IsUnchanged old.core after → faults old.core.vault ≤ faults after.vault → MakesNone tells faults old (record old { core = after })
-event_none tells faults old after stands same falls = record {
+pub event_none : {V : Type 0} (tells : Bool) (faults moment : V → ℕ) (since : V → ℕ → Saved → Type 0) (old : Sessions V) (after : CoreView V) → (IsTrue tells → (state : State) → Represents state old.core → Represents state after)
+    → IsUnchanged old.core after → faults old.core.vault ≤ faults after.vault → (IsTrue tells → Adds moment since old.core.vault after.vault (IsLeftBefore old.core))
+    → MakesNone tells faults moment since old (record old { core = after })
+event_none tells faults moment since old after stands same falls images = record {
   stands = λ told standing was. record { state = stands told standing.state was.state; past = was.past };
   shape = λ standing was. record { state = shape_unchanged standing.state old.core after same was.state; past = was.past };
   never_falls = falls;
   calls = same.calls;
   entries = refl;
+  images = λ told. leaves_before moment since old after.vault (images told);
 }
 
-pub reopen_none : {V : Type 0} (tells : Bool) (faults : V → ℕ) (old : Sessions V) (after : CoreView V) → (IsTrue tells → (state : State) → Represents state old.core → Represents state after)
+pub reopen_none : {V : Type 0} (tells : Bool) (faults moment : V → ℕ) (since : V → ℕ → Saved → Type 0) (old : Sessions V) (after : CoreView V) → (IsTrue tells → (state : State) → Represents state old.core → Represents state after)
     → ((state : State) → RepresentsButWords state old.core → RepresentsButWords state after) → after.calls ≡ old.core.calls → faults old.core.vault ≤ faults after.vault
-    → MakesNone tells faults old (record old { core = after })
-reopen_none tells faults old after stands shape calls falls = record {
+    → (was : VaultState) → old.core.told ≡ was → (IsTrue tells → Settles moment since was old.core.vault after.vault)
+    → MakesNone tells faults moment since old (record old { core = after })
+reopen_none tells faults moment since old after stands shape calls falls was same settles = record {
   stands = λ told standing was. record { state = stands told standing.state was.state; past = was.past };
   shape = λ standing was. record { state = shape standing.state was.state; past = was.past };
   never_falls = falls;
   calls = calls;
   entries = refl;
+  images = λ told. leaves_before moment since old after.vault (leaves_settling moment since old was after.vault same (settles told));
 }
+
+-- nothing happened
+pub makes_none : {V : Type 0} (tells : Bool) (faults moment : V → ℕ) (since : V → ℕ → Saved → Type 0) (sessions : Sessions V)
+    → (IsTrue tells → Adds moment since sessions.core.vault sessions.core.vault (IsLeftBefore sessions.core)) → MakesNone tells faults moment since sessions sessions
+makes_none tells faults moment since sessions nothing = record {
+  stands = λ told standing was. was;
+  shape = λ standing was. was;
+  never_falls = omega arith;
+  calls = refl;
+  entries = refl;
+  images = λ told. leaves_before moment since sessions sessions.core.vault (nothing told);
+}
+
+-- what was answered, by other names
+pub makes_step_at : {V : Type 0} (tells : Bool) (faults moment : V → ℕ) (since : V → ℕ → Saved → Type 0) (asked asked' : Asked) (given given' : Answer) (before before' after after' : Sessions V)
+    → asked ≡ asked' → given ≡ given' → before ≡ before' → after ≡ after' → MakesStep tells faults moment since asked given before after → MakesStep tells faults moment since asked' given' before' after'
+makes_step_at {V} tells faults moment since asked asked' given given' before before' after after' same_asked same_given same_before same_after step =
+    subst (λ (a : Asked). MakesStep tells faults moment since a given' before' after') same_asked
+    (subst (λ (a : Answer). MakesStep tells faults moment since asked a before' after') same_given
+    (subst (λ (s : Sessions V). MakesStep tells faults moment since asked given s after') same_before
+    (subst (λ (s : Sessions V). MakesStep tells faults moment since asked given before s) same_after step)))
 
 -- the limits of a core are those of the state that it stands for
 held_by : {V : Type 0} (core : CoreView V) → IsSound core → (own_part core.capacity 0 (cache_at core 0)).capacity ≡ core.capacity
@@ -263,12 +437,13 @@ module _ {V : Type 0} (old : Sessions V) (after : CoreView V) (past : Past) (sou
     },
   )
 
-  pub reopen_step : (tells : Bool) (faults : V → ℕ) → (IsTrue tells → Represents (start after.told after.size old.entries after.capacity) after)
+  pub reopen_step : (tells : Bool) (faults moment : V → ℕ) (since : V → ℕ → Saved → Type 0) → (IsTrue tells → Represents (start after.told after.size old.entries after.capacity) after)
       → RepresentsButWords (start after.told after.size old.entries after.capacity) after → (IsTrue tells → IsFound old.core.told after.told)
       → after.calls ≡ old.core.calls → faults old.core.vault ≤ faults after.vault
-      → MakesStep tells faults asks.Reopen given old (record { core = after; entries = old.entries; past = past })
+      → (was : VaultState) → old.core.told ≡ was → (IsTrue tells → Settles moment since was old.core.vault after.vault)
+      → MakesStep tells faults moment since asks.Reopen given old (record { core = after; entries = old.entries; past = past })
   unfolding again
-  reopen_step tells faults stands shape found calls falls = record {
+  reopen_step tells faults moment since stands shape found calls falls told_was same settles = record {
     step = λ told standing was.
         reopened_by by_machine Represents standing was was.state.parts.shared (was.state.parts.owns 0 (omega arith))
         (subst (λ (v : VaultState). IsFound v after.told) (sym was.state.parts.vault) (found told)) (stands told);
@@ -277,4 +452,5 @@ module _ {V : Type 0} (old : Sessions V) (after : CoreView V) (past : Past) (sou
     never_falls = falls;
     calls = calls;
     entries = refl;
+    images = λ told. leaves_reopening moment since old after.vault (leaves_settling moment since old told_was after.vault same (settles told));
   }

@@ -1,12 +1,15 @@
 pub mod CallLemmas
 pub mod CarryLemmas
 pub mod ChainLemmas
+pub mod LeavingLemmas
 pub mod CommandLawLemmas
+pub mod EndLemmas
 pub mod GrammarLemmas
 pub mod LimitLemmas
 pub mod LineLawLemmas
 pub mod ReadingLemmas
 pub mod RunLemmas
 pub mod SessionLemmas
+pub mod StoreLemmas
 pub mod TakingLemmas
 pub mod WantLemmas

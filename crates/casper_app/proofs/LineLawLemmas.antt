@@ -1,31 +1,20 @@
-use Rattle.std.proofs.Common.{◌≡◌, ◌≤◌, ◌^◌, ◌&&◌, ◌++◌, ◌∙◌, ℕ, Bool, true, false, cond, List, [], ◌∷◌, Option, Some, None, Result, Ok, Err, nat_eq, nat_le, codes, refl, sym, ap, subst, inl, inr, arith, drop}
+use Rattle.std.proofs.Common.{◌≡◌, ◌∙◌, ℕ, Bool, true, false, cond, List, [], ◌∷◌, Option, Some, None, refl, sym, ap, subst, inl, inr}
 use Rattle.std.specs.Prelude.{All, is_some}
 use Rattle.std.specs.Fmt.{decimal}
-use Rattle.std.specs.List.{starts_with}
 use Rattle.std.specs.Option.{option_map_or}
-use Rattle.std.specs.Str.{bytes_eq}
-use Rattle.std.proofs.lemmas.Bool.{leb-true, le-leb, and_parts, and_from}
 use Rattle.std.proofs.lemmas.Bool.Decides.{Decides-eqb}
-use Rattle.std.proofs.lemmas.Slice.Eq.{bytes_eq-Decides, starts_is}
 use Rattle.casper_words.specs.Crew.{IsClient}
 use Rattle.casper_text.specs.Line.{IsPrintable, all_printable, words}
-use Rattle.casper_text.specs.Number.{number_of}
 use Rattle.casper_text.proofs.LineLemmas.{printable_exactly}
-use Rattle.casper_text.proofs.NumberLemmas.{number_read_back, number_text}
 use Rattle.casper_model.specs.declared.event.Event.{Event}
 use Rattle.casper_model.specs.declared.event.Event.TheVariants as event
-use Rattle.casper_app.specs.declared.cause.Cause.{Cause}
-use Rattle.casper_app.specs.declared.cause.Cause.TheVariants as cause
 use Rattle.casper_app.specs.declared.schedule.Asked.{Asked}
 use Rattle.casper_app.specs.declared.schedule.Asked.TheVariants as wants
 use Rattle.casper_app.specs.declared.schedule.Parsed.{Parsed}
 use Rattle.casper_app.specs.declared.schedule.Parsed.TheVariants as parsed
-use Rattle.casper_app.specs.declared.command.Command.{Command}
-use Rattle.casper_app.specs.declared.command.Command.TheVariants as command
-use Rattle.casper_app.specs.Command.{audit_of, command_of, is_command, pages_from, pages_in, replay_of, replay_of_pages, store_of}
 use Rattle.casper_app.specs.Grammar.{words_of_event, words_of_asked, IsEvent, IsAskable}
 use Rattle.casper_app.specs.Schedule.{client_of, asked_of, is_comment, is_unbuilt, parsed_line, parsed_words, refused_as}
-use Rattle.casper_app.specs.LineLaws.{BeginsWithHash, IsPlain, IsSkipped, AsksFor, IsUnbuilt, LinesAreSorted, words_of_replay, ReplaysHaveOneText, AuditsHaveOneText}
+use Rattle.casper_app.specs.LineLaws.{BeginsWithHash, IsPlain, IsSkipped, AsksFor, IsUnbuilt, LinesAreSorted}
 use Rattle.casper_app.proofs.GrammarLemmas.{client_read_back, client_text, lines_are_read_back, lines_have_one_text}
 
 -- what a line is, by what it is said to be
@@ -184,125 +173,3 @@ lines_are_sorted line =
       unbuilt = (λ said. subst (Sorted line) said here, unbuilt_as line (parsed_line line) here);
       bad = (λ said. subst (Sorted line) said here, bad_as line (parsed_line line) here);
     }
-
--- how many pages a replay is to be over
-abbrev pages_asked : Result Command Cause → ℕ
-pages_asked (Ok (command.Replay opening outlet)) = opening.pages
-pages_asked (Ok command.Audit) = 0
-pages_asked (Err refused) = 0
-
--- a store in memory of so many pages
-memory_text : (store : List ℕ) (pages : ℕ) → store_of store ≡ Ok (replay_of_pages pages) → (1 ≤ pages) × (pages ≤ 16384) × (store ≡ codes "mem:" ++ decimal pages)
-memory_text store pages gives = by_front (starts_with nat_eq store (codes "mem:")) (starts_is Decides-eqb store (codes "mem:") _ refl).0 gives
-  where
-    by_number : (found : Option ℕ) → number_of (drop 4 store) ≡ found → option_map_or pages_from found (Err cause.Usage) ≡ Ok (replay_of_pages pages)
-        → (1 ≤ pages) × (pages ≤ 16384) × (drop 4 store ≡ decimal pages)
-    by_number None none gives = cc
-    by_number (Some number) reads gives = by_range (nat_le 1 number && nat_le number 16384) refl gives
-      where
-        by_range : (test : Bool) → (nat_le 1 number && nat_le number 16384) ≡ test → cond test (Ok (replay_of_pages number)) (Err cause.Usage) ≡ Ok (replay_of_pages pages)
-            → (1 ≤ pages) × (pages ≤ 16384) × (drop 4 store ≡ decimal pages)
-        by_range false out gives = cc
-        by_range true within gives =
-            let same : number ≡ pages = ap pages_asked gives in
-            let parts = and_parts (nat_le 1 number) (nat_le number 16384) within in
-            let least : 1 ≤ number = leb-true 1 number parts.0 in
-            let most : number ≤ 16384 = leb-true number 16384 parts.1 in
-            (omega arith, omega arith, (number_text (2 ^ 64) (drop 4 store) number (omega arith) reads).1 ∙ ap decimal same)
-
-    by_front : (test : Bool) → (test ≡ true → store ≡ codes "mem:" ++ drop 4 store) → cond test (pages_in (drop 4 store)) (Err (cause.Unbuilt 0)) ≡ Ok (replay_of_pages pages)
-        → (1 ≤ pages) × (pages ≤ 16384) × (store ≡ codes "mem:" ++ decimal pages)
-    by_front false same gives = cc
-    by_front true same gives =
-        let found = by_number (number_of (drop 4 store)) refl gives in
-        (found.0, found.1, same refl ∙ ap (λ (rest : List ℕ). codes "mem:" ++ rest) found.2)
-
-memory_read_back : (pages : ℕ) → 1 ≤ pages → pages ≤ 16384 → store_of (codes "mem:" ++ decimal pages) ≡ Ok (replay_of_pages pages)
-memory_read_back pages least most =
-    ap (λ (test : Bool). cond test (pages_in (decimal pages)) (Err (cause.Unbuilt 0)))
-    ((starts_is Decides-eqb (codes "mem:" ++ decimal pages) (codes "mem:") _ refl).1 (decimal pages) refl)
-    ∙ ap (λ (found : Option ℕ). option_map_or pages_from found (Err cause.Usage)) (number_read_back (2 ^ 64) pages (omega arith) (omega arith))
-    ∙ ap (λ (test : Bool). cond test (Ok (replay_of_pages pages)) (Err cause.Usage)) (and_from (nat_le 1 pages) (nat_le pages 16384) (le-leb 1 pages least) (le-leb pages 16384 most))
-
-IsReplayText : List (List ℕ) → ℕ → Type 0
-IsReplayText list pages = (1 ≤ pages) × (pages ≤ 16384) × (list ≡ words_of_replay pages)
-
-replay_text : (list : List (List ℕ)) (pages : ℕ) → command_of list ≡ Ok (replay_of_pages pages) → IsReplayText list pages
-unfolding IsReplayText
-replay_text [] pages gives = cc
-replay_text (command ∷ rest) pages gives = by_command (bytes_eq command (codes "replay")) (bytes_eq-Decides command (codes "replay")).0 gives
-  where
-    by_rest : (list : List (List ℕ)) → replay_of list ≡ Ok (replay_of_pages pages) → (1 ≤ pages) × (pages ≤ 16384) × (list ≡ (codes "mem:" ++ decimal pages) ∷ [])
-    by_rest [] gives = cc
-    by_rest (store ∷ []) gives =
-        let found = memory_text store pages gives in (found.0, found.1, ap (λ (s : List ℕ). s ∷ []) found.2)
-    by_rest (store ∷ next ∷ more) gives = cc
-
-    by_command : (test : Bool) → (test ≡ true → command ≡ codes "replay") → cond test (replay_of rest) (cond (bytes_eq command (codes "audit")) (audit_of rest) (cond (is_command command) (Err (cause.Unbuilt 0)) (Err cause.Usage))) ≡ Ok (replay_of_pages pages)
-        → (1 ≤ pages) × (pages ≤ 16384) × (command ∷ rest ≡ words_of_replay pages)
-    by_command true same gives =
-        let found = by_rest rest gives in
-        (found.0, found.1, ap (λ (c : List ℕ). c ∷ rest) (same refl) ∙ ap (λ (r : List (List ℕ)). codes "replay" ∷ r) found.2)
-    by_command false same gives = absurd (by_audit (bytes_eq command (codes "audit")) rest gives)
-      where
-        by_kind : (test : Bool) → cond test (Err (cause.Unbuilt 0)) (Err cause.Usage) ≡ Ok (replay_of_pages pages) → ⊥
-        by_kind true gives = cc
-        by_kind false gives = cc
-
-        by_audit : (test : Bool) (more : List (List ℕ)) → cond test (audit_of more) (cond (is_command command) (Err (cause.Unbuilt 0)) (Err cause.Usage)) ≡ Ok (replay_of_pages pages) → ⊥
-        by_audit true [] gives = cc
-        by_audit true (one ∷ more) gives = cc
-        by_audit false more gives = by_kind (is_command command) gives
-
-pub replays_have_one_text : ReplaysHaveOneText
-unfolding IsReplayText
-replays_have_one_text list pages = (
-  replay_text list pages,
-  λ is. ap command_of is.2 ∙ memory_read_back pages is.0 is.1,
-)
-
--- no store is an audit
-no_audit_of_store : (store : List ℕ) → store_of store ≡ Ok command.Audit → ⊥
-no_audit_of_store store gives = by_front (starts_with nat_eq store (codes "mem:")) gives
-  where
-    by_range : (number : ℕ) (test : Bool) → cond test (Ok (replay_of_pages number)) (Err cause.Usage) ≡ Ok command.Audit → ⊥
-    by_range number true gives = cc
-    by_range number false gives = cc
-
-    by_number : (found : Option ℕ) → option_map_or pages_from found (Err cause.Usage) ≡ Ok command.Audit → ⊥
-    by_number None gives = cc
-    by_number (Some number) gives = by_range number (nat_le 1 number && nat_le number 16384) gives
-
-    by_front : (test : Bool) → cond test (pages_in (drop 4 store)) (Err (cause.Unbuilt 0)) ≡ Ok command.Audit → ⊥
-    by_front true gives = by_number (number_of (drop 4 store)) gives
-    by_front false gives = cc
-
-audit_text : (list : List (List ℕ)) → command_of list ≡ Ok command.Audit → list ≡ codes "audit" ∷ []
-audit_text [] gives = cc
-audit_text (first ∷ rest) gives = by_replay (bytes_eq first (codes "replay")) gives
-  where
-    by_rest : (list : List (List ℕ)) → replay_of list ≡ Ok command.Audit → ⊥
-    by_rest [] gives = cc
-    by_rest (store ∷ []) gives = no_audit_of_store store gives
-    by_rest (store ∷ next ∷ more) gives = cc
-
-    by_kind : (test : Bool) → cond test (Err (cause.Unbuilt 0)) (Err cause.Usage) ≡ Ok command.Audit → ⊥
-    by_kind true gives = cc
-    by_kind false gives = cc
-
-    nothing_more : (list : List (List ℕ)) → audit_of list ≡ Ok command.Audit → list ≡ []
-    nothing_more [] gives = refl
-    nothing_more (one ∷ more) gives = cc
-
-    by_audit : (test : Bool) → (test ≡ true → first ≡ codes "audit") → cond test (audit_of rest) (cond (is_command first) (Err (cause.Unbuilt 0)) (Err cause.Usage)) ≡ Ok command.Audit
-        → first ∷ rest ≡ codes "audit" ∷ []
-    by_audit true same gives = ap (λ (c : List ℕ). c ∷ rest) (same refl) ∙ ap (λ (r : List (List ℕ)). codes "audit" ∷ r) (nothing_more rest gives)
-    by_audit false same gives = absurd (by_kind (is_command first) gives)
-
-    by_replay : (test : Bool) → cond test (replay_of rest) (cond (bytes_eq first (codes "audit")) (audit_of rest) (cond (is_command first) (Err (cause.Unbuilt 0)) (Err cause.Usage))) ≡ Ok command.Audit
-        → first ∷ rest ≡ codes "audit" ∷ []
-    by_replay true gives = absurd (by_rest rest gives)
-    by_replay false gives = by_audit (bytes_eq first (codes "audit")) (bytes_eq-Decides first (codes "audit")).0 gives
-
-pub audits_have_one_text : AuditsHaveOneText
-audits_have_one_text list = (audit_text list, λ is. ap command_of is)

@@ -1,5 +1,5 @@
 use Rattle.std.proofs.Common.{◌≡◌, ◌≢◌, ◌+◌, ◌≤◌, ◌<◌, arith, ℕ, Bool, true, false, cond, List, [], ◌∷◌, ◌++◌, Option, Some, None, Result, Ok, Err, ap, sym, subst, ◌∙◌, refl, length, length-append, length-drop, append_assoc, inl, inr, take, drop}
-use Rattle.std.specs.Prelude.{is_some, option_to_list, IsErrAnd, MatchResult, MatchBool}
+use Rattle.std.specs.Prelude.{IsTrue, is_some, option_to_list, IsErrAnd, MatchResult, MatchBool}
 use Rattle.std.proofs.lemmas.List.{append-nil, take-append-drop}
 use Rattle.std.proofs.lemmas.Grind.{flat_map-append}
 use Rattle.std.proofs.lemmas.List.Elements.{filter_map-append}
@@ -12,7 +12,9 @@ use Rattle.casper_io.specs.Told.{WhereTold, TakesFront}
 use Rattle.casper_space.specs.declared.answer.Answer.{Answer}
 use Rattle.casper_words.specs.Count.{FaultCountRose}
 use Rattle.casper_report.specs.Texts.{answer_line, answer_lines}
-use Rattle.casper_core.specs.Stepping.{RoseBy}
+use Rattle.casper_disk.specs.Vault.{Saved}
+use Rattle.casper_core.specs.Leaving.{Adds, IsLeftBefore}
+use Rattle.casper_core.specs.Stepping.{RoseBy, failures_in}
 use Rattle.casper_app.specs.declared.cause.Cause.{Cause}
 use Rattle.casper_app.specs.declared.cause.Cause.TheVariants as cause
 use Rattle.casper_app.specs.declared.outlet.Outlet.{Outlet}
@@ -73,14 +75,16 @@ none_of true = refl
 none_of false = refl
 
 -- before any line
-pub stands_first : {V : Type 0} (tells : Bool) (faults : V → ℕ) (left taken : Option (List ℕ)) (replay : Replay V) → replay.sessions.core.calls ≡ 0 → Stands tells faults 0 left left taken taken replay replay
-stands_first tells faults left taken replay calls = record {
+pub stands_first : {V : Type 0} (tells : Bool) (faults moment : V → ℕ) (since : V → ℕ → Saved → Type 0) (left taken : Option (List ℕ)) (replay : Replay V)
+    → (IsTrue tells → Adds moment since replay.sessions.core.vault replay.sessions.core.vault (IsLeftBefore replay.sessions.core)) → replay.sessions.core.calls ≡ 0
+    → Stands tells faults moment since 0 left left taken taken replay replay
+stands_first tells faults moment since left taken replay nothing calls = record {
   lines = [];
   counted = refl;
   reads = refl;
   each = tt;
   given = [];
-  carries = carries_none tells faults replay.sessions calls;
+  carries = carries_none tells faults moment since replay.sessions nothing calls;
   outlet = refl;
   kept = sym (ap (λ (none : List Answer). replay.answers.items ++ none) (none_of (keeps replay.outlet)) ∙ append-nil replay.answers.items);
   written = sym (ap (λ (none : List Answer). append_known taken (answer_lines none)) (none_of (writes replay.outlet)) ∙ append_known-nil taken);
@@ -112,22 +116,32 @@ cut_at first between last before given told is start front = (
   },
 )
 
+-- a disk that failed counts beside the steps before it
+disk_counted : (said : Cause) (failures before middle now : ℕ) → RoseBy failures before middle → (said ≡ cause.Disk → FaultCountRose middle now)
+    → ◌≡◌ {A = Option Cause} (Some said) (Some cause.Disk) → RoseBy (failures + 1) before now
+disk_counted said failures before middle now first rose is =
+    let same : said ≡ cause.Disk = cc in
+    let later : FaultCountRose middle now = rose same in
+    omega (arith, first, later)
+
 -- what a line with an answer comes to, after the lines before it
-module _ {V : Type 0} {tells : Bool} {faults : V → ℕ} {count : ℕ} {first left : Option (List ℕ)} (last : Option (List ℕ)) {taken_first taken : Option (List ℕ)} (taken_last : Option (List ℕ))
-    {old middle : Replay V} (new : Replay V) (line : List ℕ) (stands : Stands tells faults count first left taken_first taken old middle) (takes : WhereTold left last (TakesLine line)) where
+module _ {V : Type 0} {tells : Bool} {faults moment : V → ℕ} {since : V → ℕ → Saved → Type 0}
+    (counts : (vault : V) (earlier later : ℕ) (saved : Saved) → IsTrue tells → earlier ≤ later → since vault later saved → since vault earlier saved)
+    {count : ℕ} {first left : Option (List ℕ)} (last : Option (List ℕ)) {taken_first taken : Option (List ℕ)} (taken_last : Option (List ℕ))
+    {old middle : Replay V} (new : Replay V) (line : List ℕ) (stands : Stands tells faults moment since count first left taken_first taken old middle) (takes : WhereTold left last (TakesLine line)) where
   -- what the lines with this one ask for, and the answers
-  carries_with : (given : Option Answer) → CarriesLine tells faults line given middle.sessions new.sessions → is_some given ≡ is_some (asked_of_line line)
-      → Carries tells faults (asked_in (stands.lines ++ line ∷ [])) (stands.given ++ option_to_list given) old.sessions new.sessions
+  carries_with : (given : Option Answer) → CarriesLine tells faults moment since line given middle.sessions new.sessions → is_some given ≡ is_some (asked_of_line line)
+      → Carries tells faults moment since (asked_in (stands.lines ++ line ∷ [])) (stands.given ++ option_to_list given) old.sessions new.sessions
   carries_with given carries test =
-      subst (λ (all : List Asked). Carries tells faults all (stands.given ++ option_to_list given) old.sessions new.sessions) (sym (asked_more stands.lines line))
-      (carries_line tells faults (asked_in stands.lines) stands.given line given old.sessions middle.sessions new.sessions stands.carries carries test)
+      subst (λ (all : List Asked). Carries tells faults moment since all (stands.given ++ option_to_list given) old.sessions new.sessions) (sym (asked_more stands.lines line))
+      (carries_line tells faults moment since counts (asked_in stands.lines) stands.given line given old.sessions middle.sessions new.sessions stands.carries carries test)
 
   kept_with : (given : Option Answer) → new.answers.items ≡ middle.answers.items ++ kept_of middle.outlet (option_to_list given)
       → new.answers.items ≡ old.answers.items ++ kept_of old.outlet (stands.given ++ option_to_list given)
   kept_with given kept = kept_more old.answers.items middle.answers.items new.answers.items old.outlet middle.outlet stands.given (option_to_list given) stands.kept stands.outlet kept
 
   -- after a line that was taken
-  pub stands_more : TakesInput tells faults (count + 1) line middle new taken taken_last (Ok tt) → Stands tells faults (count + 1) first last taken_first taken_last old new
+  pub stands_more : TakesInput tells faults moment since (count + 1) line middle new taken taken_last (Ok tt) → Stands tells faults moment since (count + 1) first last taken_first taken_last old new
   stands_more input = record {
     lines = stands.lines ++ line ∷ [];
     counted = length-append stands.lines (line ∷ []) ∙ ap (λ (n : ℕ). n + 1) stands.counted;
@@ -142,11 +156,12 @@ module _ {V : Type 0} {tells : Bool} {faults : V → ℕ} {count : ℕ} {first l
 
   -- a line without an answer that ended the reading
   stays : (said : Cause) → EndsFor (Some said) stands.lines left last (written_of old.outlet stands.given) (written_of old.outlet stands.given) → WritesAnswers (Some said) (written_of old.outlet stands.given) (answer_lines (written_of old.outlet stands.given))
-      → count < most_lines → (given : Option Answer) → given ≡ None → CarriesLine tells faults line given middle.sessions new.sessions
+      → count < most_lines → (given : Option Answer) → given ≡ None → CarriesLine tells faults moment since line given middle.sessions new.sessions
       → new.answers.items ≡ middle.answers.items ++ kept_of middle.outlet (option_to_list given) → taken_last ≡ taken
-      → IsReading tells faults first last taken_first taken_last old new (Err said)
-  stays said ends whole few given none carries kept same =
-      let still = subst (λ (g : Option Answer). CarriesLine tells faults line g middle.sessions new.sessions) none carries in
+      → (said ≡ cause.Disk → FaultCountRose (faults middle.sessions.core.vault) (faults new.sessions.core.vault))
+      → IsReading tells faults moment since first last taken_first taken_last old new (Err said)
+  stays said ends whole few given none carries kept same rose =
+      let still = subst (λ (g : Option Answer). CarriesLine tells faults moment since line g middle.sessions new.sessions) none carries in
       let all : new.answers.items ≡ old.answers.items ++ kept_of old.outlet (stands.given ++ option_to_list given) = kept_with given kept in
       record {
         lines = stands.lines;
@@ -157,7 +172,8 @@ module _ {V : Type 0} {tells : Bool} {faults : V → ℕ} {count : ℕ} {first l
         counted = tt;
         ends = ends;
         given = stands.given;
-        carries = carries_still tells faults (asked_in stands.lines) stands.given old.sessions middle.sessions new.sessions stands.carries still;
+        carries = carries_still tells faults moment since counts (asked_in stands.lines) stands.given old.sessions middle.sessions new.sessions stands.carries still;
+        stopped = λ is. disk_counted said (failures_in stands.given) (faults old.sessions.core.vault) (faults middle.sessions.core.vault) (faults new.sessions.core.vault) stands.carries.failures rose is;
         kept = all ∙ ap (λ (g : Option Answer). old.answers.items ++ kept_of old.outlet (stands.given ++ option_to_list g)) none
             ∙ ap (λ (g : List Answer). old.answers.items ++ kept_of old.outlet g) (append-nil stands.given);
         out = answer_lines (written_of old.outlet stands.given);
@@ -167,12 +183,12 @@ module _ {V : Type 0} {tells : Bool} {faults : V → ℕ} {count : ℕ} {first l
       }
 
   -- a line that was answered, and whose answer was not written whole
-  carried : (said : Cause) (one : Answer) (asked : Asked) → asked_of_line line ≡ Some asked → (given : Option Answer) → given ≡ Some one → CarriesLine tells faults line given middle.sessions new.sessions
+  carried : (said : Cause) (one : Answer) (asked : Asked) → asked_of_line line ≡ Some asked → (given : Option Answer) → given ≡ Some one → CarriesLine tells faults moment since line given middle.sessions new.sessions
       → new.answers.items ≡ middle.answers.items ++ kept_of middle.outlet (option_to_list given) → count < most_lines
       → (told : List Answer) → EndsFor (Some said) (stands.lines ++ line ∷ []) last last (written_of old.outlet (stands.given ++ one ∷ [])) told
-      → (out : List ℕ) → taken_last ≡ append_known taken_first out → WritesAnswers (Some said) told out
-      → IsReading tells faults first last taken_first taken_last old new (Err said)
-  carried said one asked asks given some carries kept few told ends out taken_is written =
+      → (out : List ℕ) → taken_last ≡ append_known taken_first out → WritesAnswers (Some said) told out → (◌≡◌ {A = Option Cause} (Some said) (Some cause.Disk) → ⊥)
+      → IsReading tells faults moment since first last taken_first taken_last old new (Err said)
+  carried said one asked asks given some carries kept few told ends out taken_is written no_disk =
       let test : is_some given ≡ is_some (asked_of_line line) = ap is_some some ∙ sym (ap is_some asks) in
       let all = carries_with given carries test in
       let both : new.answers.items ≡ old.answers.items ++ kept_of old.outlet (stands.given ++ option_to_list given) = kept_with given kept in
@@ -185,7 +201,8 @@ module _ {V : Type 0} {tells : Bool} {faults : V → ℕ} {count : ℕ} {first l
         counted = tt;
         ends = ends;
         given = stands.given ++ one ∷ [];
-        carries = subst (λ (g : Option Answer). Carries tells faults (asked_in (stands.lines ++ line ∷ [])) (stands.given ++ option_to_list g) old.sessions new.sessions) some all;
+        carries = subst (λ (g : Option Answer). Carries tells faults moment since (asked_in (stands.lines ++ line ∷ [])) (stands.given ++ option_to_list g) old.sessions new.sessions) some all;
+        stopped = λ is. absurd (no_disk is);
         kept = both ∙ ap (λ (g : Option Answer). old.answers.items ++ kept_of old.outlet (stands.given ++ option_to_list g)) some;
         out = out;
         taken_is = taken_is;
@@ -203,56 +220,57 @@ module _ {V : Type 0} {tells : Bool} {faults : V → ℕ} {count : ℕ} {first l
   last_asks asked asks = record { front = stands.lines; line = line; is_last = refl; asked = asked; asks = asks }
 
   -- memory was short before a line was answered, or for the text of its answer
-  pub short_of_memory : (given : Option Answer) → CarriesLine tells faults line given middle.sessions new.sessions
+  pub short_of_memory : (given : Option Answer) → CarriesLine tells faults moment since line given middle.sessions new.sessions
       → new.answers.items ≡ middle.answers.items ++ kept_of middle.outlet (option_to_list given) → count < most_lines → taken_last ≡ taken
       → IsDue middle.outlet given → (asked : Asked) → asked_of_line line ≡ Some asked
-      → IsReading tells faults first last taken_first taken_last old new (Err cause.Memory)
+      → IsReading tells faults moment since first last taken_first taken_last old new (Err cause.Memory)
   short_of_memory None carries kept few same due asked asks =
-      stays cause.Memory (inr (inl (omega (arith, stands.counted, few), (line, takes, asked, asks), refl))) refl few None refl carries kept same
+      stays cause.Memory (inr (inl (omega (arith, stands.counted, few), (line, takes, asked, asks), refl))) refl few None refl carries kept same (λ is. (let none = is in cc))
   short_of_memory (Some one) carries kept few same due asked asks =
       carried cause.Memory one carries.0 carries.1 (Some one) refl carries kept few (written_of old.outlet stands.given)
       (inr (inr (refl, last_asks carries.0 carries.1, one, with_last one due)))
-      (answer_lines (written_of old.outlet stands.given)) (same ∙ stands.written) refl
+      (answer_lines (written_of old.outlet stands.given)) (same ∙ stands.written) refl (λ is. (let none = is in cc))
 
   -- the sink failed at the answer
-  pub cut_short : (one : Answer) (given : Option Answer) → given ≡ Some one → CarriesLine tells faults line given middle.sessions new.sessions
+  pub cut_short : (one : Answer) (given : Option Answer) → given ≡ Some one → CarriesLine tells faults moment since line given middle.sessions new.sessions
       → new.answers.items ≡ middle.answers.items ++ kept_of middle.outlet (option_to_list given) → count < most_lines
       → written_of middle.outlet (one ∷ []) ≡ one ∷ [] → TakesFront taken taken_last (answer_line one)
-      → IsReading tells faults first last taken_first taken_last old new (Err cause.Write)
+      → IsReading tells faults moment since first last taken_first taken_last old new (Err cause.Write)
   cut_short one given some carries kept few whole front =
-      let step = subst (λ (g : Option Answer). CarriesLine tells faults line g middle.sessions new.sessions) some carries in
+      let step = subst (λ (g : Option Answer). CarriesLine tells faults moment since line g middle.sessions new.sessions) some carries in
       let cut = cut_at taken_first taken taken_last (written_of old.outlet stands.given) one
       (written_of old.outlet (stands.given ++ one ∷ [])) (with_last one whole) stands.written front in
       carried cause.Write one step.0 step.1 given some carries kept few
-      (written_of old.outlet (stands.given ++ one ∷ [])) (refl, last_asks step.0 step.1, refl) cut.0 cut.1 cut.2
+      (written_of old.outlet (stands.given ++ one ∷ [])) (refl, last_asks step.0 step.1, refl) cut.0 cut.1 cut.2 (λ is. (let none = is in cc))
 
   -- a line was refused, or memory was short, or the sink failed at its answer
-  pub reading_refused : (said : Cause) → count < most_lines → TakesInput tells faults (count + 1) line middle new taken taken_last (Err said)
-      → IsReading tells faults first last taken_first taken_last old new (Err said)
-  reading_refused cause.Usage few input = absurd input.writes
-  reading_refused cause.Read few input = absurd input.writes
-  reading_refused cause.Write few input = cut_short input.writes.0 input.given input.writes.1 input.carries input.kept few input.writes.2 input.writes.3
-  reading_refused cause.Disk few input =
-      stays cause.Disk (omega (arith, stands.counted, few), (line, takes, input.writes.0), refl) refl few input.given input.writes.1 input.carries input.kept input.writes.2
-  reading_refused (cause.Refused refusal) few input =
-      stays (cause.Refused refusal) (omega (arith, stands.counted, few), (line, takes, input.writes.0), refl) refl few input.given input.writes.1 input.carries input.kept input.writes.2
-  reading_refused cause.Memory few input = short_of_memory input.given input.carries input.kept few input.writes.0 input.writes.1 input.writes.2 input.writes.3
-  reading_refused (cause.BadLine n) few input =
+  pub reading_refused : (said : Cause) → count < most_lines → TakesInput tells faults moment since (count + 1) line middle new taken taken_last (Err said)
+      → (said ≡ cause.Disk → FaultCountRose (faults middle.sessions.core.vault) (faults new.sessions.core.vault))
+      → IsReading tells faults moment since first last taken_first taken_last old new (Err said)
+  reading_refused cause.Usage few input rose = absurd input.writes
+  reading_refused cause.Read few input rose = absurd input.writes
+  reading_refused cause.Write few input rose = cut_short input.writes.0 input.given input.writes.1 input.carries input.kept few input.writes.2 input.writes.3
+  reading_refused cause.Disk few input rose =
+      stays cause.Disk (omega (arith, stands.counted, few), (line, takes, input.writes.0), refl) refl few input.given input.writes.1 input.carries input.kept input.writes.2 rose
+  reading_refused (cause.Refused refusal) few input rose =
+      stays (cause.Refused refusal) (omega (arith, stands.counted, few), (line, takes, input.writes.0), refl) refl few input.given input.writes.1 input.carries input.kept input.writes.2 rose
+  reading_refused cause.Memory few input rose = short_of_memory input.given input.carries input.kept few input.writes.0 input.writes.1 input.writes.2 input.writes.3
+  reading_refused (cause.BadLine n) few input rose =
       stays (cause.BadLine n) (input.writes.0 ∙ ap (λ (k : ℕ). k + 1) (sym stands.counted), (line, inr (takes, inl input.writes.1)), refl) refl few
-      input.given input.writes.2 input.carries input.kept input.writes.3
-  reading_refused (cause.Illegal at rule) few input = absurd input.writes
-  reading_refused (cause.Unbuilt n) few input =
+      input.given input.writes.2 input.carries input.kept input.writes.3 rose
+  reading_refused (cause.Illegal at rule) few input rose = absurd input.writes
+  reading_refused (cause.Unbuilt n) few input rose =
       stays (cause.Unbuilt n) (input.writes.0 ∙ ap (λ (k : ℕ). k + 1) (sym stands.counted), (omega (arith, input.writes.0, few), line, takes, input.writes.1), refl) refl few
-      input.given input.writes.2 input.carries input.kept input.writes.3
+      input.given input.writes.2 input.carries input.kept input.writes.3 rose
 
-module _ {V : Type 0} {tells : Bool} {faults : V → ℕ} {count : ℕ} {first left last taken_first taken : Option (List ℕ)} {old middle : Replay V}
-    (stands : Stands tells faults count first left taken_first taken old middle) where
+module _ {V : Type 0} {tells : Bool} {faults moment : V → ℕ} {since : V → ℕ → Saved → Type 0} {count : ℕ} {first left last taken_first taken : Option (List ℕ)} {old middle : Replay V}
+    (stands : Stands tells faults moment since count first left taken_first taken old middle) where
   -- the reading ended after the lines that were answered
   ended : (result : Result ℕ Cause) → count ≤ most_lines → (told_count : MatchResult result (λ all. all ≡ count) (λ cause. Unit {0}))
       → EndsFor (stop_of result) stands.lines left last (written_of old.outlet stands.given) (written_of old.outlet stands.given)
-      → WritesAnswers (stop_of result) (written_of old.outlet stands.given) (answer_lines (written_of old.outlet stands.given))
-      → IsReading tells faults first last taken_first taken old middle result
-  ended result few told_count ends whole = record {
+      → WritesAnswers (stop_of result) (written_of old.outlet stands.given) (answer_lines (written_of old.outlet stands.given)) → (stop_of result ≡ Some cause.Disk → ⊥)
+      → IsReading tells faults moment since first last taken_first taken old middle result
+  ended result few told_count ends whole no_disk = record {
     lines = stands.lines;
     rest = left;
     reads = stands.reads;
@@ -262,6 +280,7 @@ module _ {V : Type 0} {tells : Bool} {faults : V → ℕ} {count : ℕ} {first l
     ends = ends;
     given = stands.given;
     carries = stands.carries;
+    stopped = λ is. absurd (no_disk is);
     kept = stands.kept;
     out = answer_lines (written_of old.outlet stands.given);
     taken_is = stands.written;
@@ -274,36 +293,36 @@ module _ {V : Type 0} {tells : Bool} {faults : V → ℕ} {count : ℕ} {first l
       counted_by (Err cause) same = tt
 
   -- the source is at its end
-  pub reading_done : count ≤ most_lines → WhereTold left last (TakesEnd []) → IsReading tells faults first last taken_first taken old middle (Ok count)
-  reading_done few takes = ended (Ok count) few refl (takes, refl) refl
+  pub reading_done : count ≤ most_lines → WhereTold left last (TakesEnd []) → IsReading tells faults moment since first last taken_first taken old middle (Ok count)
+  reading_done few takes = ended (Ok count) few refl (takes, refl) refl (λ is. (let none = is in cc))
 
   -- no line stood next
-  pub reading_failed : (said : Cause) → count ≤ most_lines → NoLine said (count + 1) left last → IsReading tells faults first last taken_first taken old middle (Err said)
+  pub reading_failed : (said : Cause) → count ≤ most_lines → NoLine said (count + 1) left last → IsReading tells faults moment since first last taken_first taken old middle (Err said)
   reading_failed cause.Usage few next = absurd next
-  reading_failed cause.Read few next = ended (Err cause.Read) few tt (next, refl) refl
+  reading_failed cause.Read few next = ended (Err cause.Read) few tt (next, refl) refl (λ is. (let none = is in cc))
   reading_failed cause.Write few next = absurd next
   reading_failed cause.Disk few next = absurd next
   reading_failed (cause.Refused refusal) few next = absurd next
   reading_failed cause.Memory few next = absurd next
   reading_failed (cause.BadLine n) few next =
-      ended (Err (cause.BadLine n)) few tt (next.0 ∙ ap (λ (k : ℕ). k + 1) (sym stands.counted), (next.1, inl next.2), refl) refl
+      ended (Err (cause.BadLine n)) few tt (next.0 ∙ ap (λ (k : ℕ). k + 1) (sym stands.counted), (next.1, inl next.2), refl) refl (λ is. (let none = is in cc))
   reading_failed (cause.Illegal at rule) few next = absurd next
   reading_failed (cause.Unbuilt n) few next = absurd next
 
   -- no line stood next after as many as there may be
-  pub reading_failed_last : (said : Cause) → count ≡ most_lines → NoLine said (most_lines + 1) left last → IsReading tells faults first last taken_first taken old middle (Err said)
+  pub reading_failed_last : (said : Cause) → count ≡ most_lines → NoLine said (most_lines + 1) left last → IsReading tells faults moment since first last taken_first taken old middle (Err said)
   reading_failed_last said all next =
       reading_failed said (omega (arith, all)) (let same : most_lines + 1 ≡ count + 1 = omega (arith, all) in subst (λ (n : ℕ). NoLine said n left last) same next)
 
   -- one line too many stood next
-  pub reading_past : (line : List ℕ) → count ≡ most_lines → WhereTold left last (TakesLine line) → IsReading tells faults first last taken_first taken old middle (Err (cause.BadLine (most_lines + 1)))
+  pub reading_past : (line : List ℕ) → count ≡ most_lines → WhereTold left last (TakesLine line) → IsReading tells faults moment since first last taken_first taken old middle (Err (cause.BadLine (most_lines + 1)))
   reading_past line all takes =
-      ended (Err (cause.BadLine (most_lines + 1))) (omega (arith, all)) tt (omega (arith, stands.counted, all), (line, inr (takes, inr refl)), refl) refl
+      ended (Err (cause.BadLine (most_lines + 1))) (omega (arith, all)) tt (omega (arith, stands.counted, all), (line, inr (takes, inr refl)), refl) refl (λ is. (let none = is in cc))
 
 -- what a line did, by its bytes in other words
-pub input_at : {V : Type 0} (tells : Bool) (faults : V → ℕ) (number : ℕ) (line line' : List ℕ) (old new : Replay V) (taken taken_last : Option (List ℕ)) (result : Result (Unit {0}) Cause)
-    → line ≡ line' → TakesInput tells faults number line old new taken taken_last result → TakesInput tells faults number line' old new taken taken_last result
-input_at tells faults number line line' old new taken taken_last result same h = subst (λ (l : List ℕ). TakesInput tells faults number l old new taken taken_last result) same h
+pub input_at : {V : Type 0} (tells : Bool) (faults moment : V → ℕ) (since : V → ℕ → Saved → Type 0) (number : ℕ) (line line' : List ℕ) (old new : Replay V) (taken taken_last : Option (List ℕ)) (result : Result (Unit {0}) Cause)
+    → line ≡ line' → TakesInput tells faults moment since number line old new taken taken_last result → TakesInput tells faults moment since number line' old new taken taken_last result
+input_at tells faults moment since number line line' old new taken taken_last result same h = subst (λ (l : List ℕ). TakesInput tells faults moment since number l old new taken taken_last result) same h
 
 -- a line stood next
 pub is_line : (P Q : Type 0) (found : Bool) → found ≡ true → MatchBool found P Q → P

@@ -7,6 +7,7 @@ use Rattle.casper_io.specs.Told.{TakesFront}
 use Rattle.casper_report.specs.Texts.{answer_line, answer_lines}
 use Rattle.casper_space.specs.declared.answer.Answer.{Answer}
 use Rattle.casper_disk.specs.MemVault.{HeldPages, held_image}
+use Rattle.casper_disk.specs.Vault.{Saved}
 use Rattle.casper_model.specs.declared.event.Event.{Event}
 use Rattle.casper_model.specs.declared.event.Event.TheVariants as event
 use Rattle.casper_model.specs.State.{State, start, zero_start}
@@ -20,6 +21,7 @@ use Rattle.casper_app.specs.declared.outlet.Outlet.{Outlet}
 use Rattle.casper_app.specs.declared.replay.Replay.{Replay}
 use Rattle.casper_app.specs.declared.schedule.Asked.{Asked}
 use Rattle.casper_app.specs.declared.schedule.Asked.TheVariants as asks
+use Rattle.casper_app.specs.declared.schedule.Parsed.{Parsed}
 use Rattle.casper_app.specs.declared.schedule.Parsed.TheVariants as parsed
 use Rattle.casper_app.specs.Carrying.{MakesStep, MakesNone, MayBeAsked}
 use Rattle.casper_app.specs.Grammar.{IsEvent, IsAskable}
@@ -61,9 +63,9 @@ stands_at_start pages entries cache vault core told size image version stands =
     (told ∙ ap (vaults (held_image vault)) version ∙ ap (λ (i : List (List ℕ)). vaults i 1) image)) stands
 
 -- what was done for something is what was done for the line that asks for it
-pub input_of_asked : {V : Type 0} (tells : Bool) (faults : V → ℕ) (number : ℕ) (line : List ℕ) (asked : Asked) (old new : Replay V) (before after : Option (List ℕ)) (result : Result (Unit {0}) Cause)
-    → parsed_line line ≡ parsed.Asked asked → TakesAsked tells faults asked old new before after result → TakesInput tells faults number line old new before after result
-input_of_asked tells faults number line asked old new before after result parses takes = record {
+pub input_of_asked : {V : Type 0} (tells : Bool) (faults moment : V → ℕ) (since : V → ℕ → Saved → Type 0) (number : ℕ) (line : List ℕ) (asked : Asked) (old new : Replay V) (before after : Option (List ℕ)) (result : Result (Unit {0}) Cause)
+    → parsed_line line ≡ parsed.Asked asked → TakesAsked tells faults moment since asked old new before after result → TakesInput tells faults moment since number line old new before after result
+input_of_asked tells faults moment since number line asked old new before after result parses takes = record {
   given = takes.given;
   carries = by_given takes.given takes.carries;
   outlet = takes.outlet;
@@ -77,7 +79,7 @@ input_of_asked tells faults number line asked old new before after result parses
     taken : IsTaken line
     taken = subst IsTakenAs (sym parses) tt
 
-    by_given : (given : Option Answer) → CarriesAsked tells faults asked given old.sessions new.sessions → CarriesLine tells faults line given old.sessions new.sessions
+    by_given : (given : Option Answer) → CarriesAsked tells faults moment since asked given old.sessions new.sessions → CarriesLine tells faults moment since line given old.sessions new.sessions
     by_given None none = none
     by_given (Some one) step = (asked, is, step)
 
@@ -92,6 +94,38 @@ input_of_asked tells faults number line asked old new before after result parses
     by_result (Err (cause.BadLine n)) given h = absurd h
     by_result (Err (cause.Illegal at rule)) given h = absurd h
     by_result (Err (cause.Unbuilt n)) given h = absurd h
+
+-- what is kept and written of no answer
+none_of : (test : Bool) → ◌≡◌ {A = List Answer} (cond test [] []) []
+none_of true = refl
+none_of false = refl
+
+-- a line that asks for nothing: nothing has changed
+module _ {V : Type 0} (tells : Bool) (faults moment : V → ℕ) (since : V → ℕ → Saved → Type 0) (number : ℕ) (line : List ℕ) (replay : Replay V) (taken : Option (List ℕ))
+    (none : MakesNone tells faults moment since replay.sessions replay.sessions) where
+  same_kept : replay.answers.items ≡ replay.answers.items ++ kept_of replay.outlet []
+  same_kept = sym (ap (λ (more : List Answer). replay.answers.items ++ more) (none_of (keeps replay.outlet)) ∙ append-nil replay.answers.items)
+
+  -- it is skipped
+  pub line_skipped : parsed_line line ≡ parsed.Skip → TakesInput tells faults moment since number line replay replay taken taken (Ok tt)
+  line_skipped parses = record {
+    given = None;
+    carries = none;
+    outlet = refl;
+    kept = same_kept;
+    writes = (
+      subst IsTakenAs (sym parses) tt,
+      sym (ap (λ (p : Parsed). is_some (asked_of_parsed p)) parses),
+      sym (ap (λ (told : List Answer). append_known taken (answer_lines told)) (none_of (writes replay.outlet)) ∙ append_known-nil taken),
+    );
+  }
+
+  -- or it is refused
+  pub line_unbuilt : parsed_line line ≡ parsed.Unbuilt → TakesInput tells faults moment since number line replay replay taken taken (Err (cause.Unbuilt number))
+  line_unbuilt parses = record { given = None; carries = none; outlet = refl; kept = same_kept; writes = (refl, parses, refl, refl) }
+
+  pub line_bad : parsed_line line ≡ parsed.Bad → TakesInput tells faults moment since number line replay replay taken taken (Err (cause.BadLine number))
+  line_bad parses = record { given = None; carries = none; outlet = refl; kept = same_kept; writes = (refl, parses, refl, refl) }
 
 -- where answers are not written, nothing of one is
 pub unwritten : (outlet outlet' : Outlet) (given : List Answer) (taken : Option (List ℕ)) → outlet' ≡ outlet → writes outlet' ≡ false
@@ -113,20 +147,20 @@ pub front_of : (before after : Option (List ℕ)) (text text' : List ℕ) → te
 front_of before after text text' same front = subst (λ (t : List ℕ). TakesFront before after t) same front
 
 -- memory was short for the text of an answer
-pub memory_short : {V : Type 0} (tells : Bool) (faults : V → ℕ) (asked : Asked) (one : Answer) (old new : Replay V) (taken : Option (List ℕ)) (result : Result (Unit {0}) Cause)
-    → IsErrAnd result (λ made. made ≡ cause.Memory) → MakesStep tells faults asked one old.sessions new.sessions → new.outlet ≡ old.outlet
-    → new.answers.items ≡ old.answers.items ++ kept_of old.outlet (one ∷ []) → written_of old.outlet (one ∷ []) ≡ one ∷ [] → TakesAsked tells faults asked old new taken taken result
-memory_short tells faults asked one old new taken (Ok done) made step same kept due = absurd made
-memory_short tells faults asked one old new taken (Err said) made step same kept due =
-    subst (λ (c : Cause). TakesAsked tells faults asked old new taken taken (Err c)) (sym made)
+pub memory_short : {V : Type 0} (tells : Bool) (faults moment : V → ℕ) (since : V → ℕ → Saved → Type 0) (asked : Asked) (one : Answer) (old new : Replay V) (taken : Option (List ℕ)) (result : Result (Unit {0}) Cause)
+    → IsErrAnd result (λ made. made ≡ cause.Memory) → MakesStep tells faults moment since asked one old.sessions new.sessions → new.outlet ≡ old.outlet
+    → new.answers.items ≡ old.answers.items ++ kept_of old.outlet (one ∷ []) → written_of old.outlet (one ∷ []) ≡ one ∷ [] → TakesAsked tells faults moment since asked old new taken taken result
+memory_short tells faults moment since asked one old new taken (Ok done) made step same kept due = absurd made
+memory_short tells faults moment since asked one old new taken (Err said) made step same kept due =
+    subst (λ (c : Cause). TakesAsked tells faults moment since asked old new taken taken (Err c)) (sym made)
     (record { given = Some one; carries = step; outlet = same; kept = kept; writes = (refl, due) })
 
 -- there was no answer, and nothing was written
-pub unanswered : {V : Type 0} (tells : Bool) (faults : V → ℕ) (asked : Asked) (why : Cause) (old new : Replay V) (taken : Option (List ℕ)) (result : Result (Unit {0}) Cause)
-    → IsErrAnd result (λ made. made ≡ why) → IsWhy asked why → MakesNone tells faults old.sessions new.sessions → new.outlet ≡ old.outlet → new.answers.items ≡ old.answers.items
-    → TakesAsked tells faults asked old new taken taken result
-unanswered tells faults asked why old new taken (Ok done) made is none same kept = absurd made
-unanswered tells faults asked why old new taken (Err said) made is none same kept = record {
+pub unanswered : {V : Type 0} (tells : Bool) (faults moment : V → ℕ) (since : V → ℕ → Saved → Type 0) (asked : Asked) (why : Cause) (old new : Replay V) (taken : Option (List ℕ)) (result : Result (Unit {0}) Cause)
+    → IsErrAnd result (λ made. made ≡ why) → IsWhy asked why → MakesNone tells faults moment since old.sessions new.sessions → new.outlet ≡ old.outlet → new.answers.items ≡ old.answers.items
+    → TakesAsked tells faults moment since asked old new taken taken result
+unanswered tells faults moment since asked why old new taken (Ok done) made is none same kept = absurd made
+unanswered tells faults moment since asked why old new taken (Err said) made is none same kept = record {
   given = None;
   carries = none;
   outlet = same;

@@ -1,4 +1,4 @@
-use Rattle.std.specs.Prelude.{◌≡◌, ◌≢◌, ℕ, List, [], Option, Result, Ok, Err, MatchResult}
+use Rattle.std.specs.Prelude.{◌≡◌, ◌≢◌, ℕ, ◌+◌, List, [], Option, Result, Ok, Err}
 use Rattle.std.specs.Io.KnownBytes.{append_known}
 use Rattle.casper_core.specs.Stepping.{RoseBy, failures_in}
 use Rattle.casper_audit.specs.declared.verdict.AuditFault.{AuditFault}
@@ -14,15 +14,12 @@ use Rattle.casper_model.specs.WholeHistory.{whole_of}
 use Rattle.casper_space.specs.declared.answer.Answer.{Answer}
 use Rattle.casper_app.specs.declared.cause.Cause.{Cause}
 use Rattle.casper_app.specs.declared.cause.Cause.TheVariants as cause
-use Rattle.casper_app.specs.declared.command.Command.{Command}
-use Rattle.casper_app.specs.declared.command.Command.TheVariants as command
 use Rattle.casper_app.specs.declared.command.Opening.{Opening}
 use Rattle.casper_app.specs.declared.end.End.{End}
 use Rattle.casper_app.specs.declared.end.End.TheVariants as end
 use Rattle.casper_app.specs.declared.outlet.Outlet.{Outlet}
 use Rattle.casper_app.specs.declared.schedule.Asked.{Asked}
 use Rattle.casper_app.specs.Comes.{ComesFrom}
-use Rattle.casper_app.specs.Command.{command_of}
 use Rattle.casper_app.specs.Lines.{asked_in}
 use Rattle.casper_app.specs.Opening.{IsNoRefusal}
 use Rattle.casper_app.specs.Play.{Standing, Plays, begun, by_machine}
@@ -44,17 +41,20 @@ pub record EndsWith (meant last : End) (before after : Option (List ℕ)) : Type
   pub taken : after ≡ append_known before out
   pub written : WritesFor said last (end_line said) out
 
--- a call that was done
-abbrev pub IsDone : End → Type 0
-IsDone (end.Done summary) = Unit {0}
-IsDone (end.Legal entries) = Unit {0}
-IsDone (end.Stopped cause) = ⊥
+-- a call that reads the source was done
+abbrev pub IsReadAndDone : End → Type 0
+IsReadAndDone (end.Done summary) = Unit {0}
+IsReadAndDone (end.Legal entries) = Unit {0}
+IsReadAndDone (end.Formatted pages frames) = ⊥
+IsReadAndDone (end.Checked found) = ⊥
+IsReadAndDone (end.Stopped cause) = ⊥
 
 -- a replay whose lines come to something wrote this, and as many steps failed by the outside, at most, as the count of the vault's
--- faults tells
+-- faults tells; and one more, where a reopen failed by the disk
 pub record RunsReplay (Comes : ℕ → End → List Asked → List Answer → List Item → Type 0) (outlet : Outlet) (faults faults_after : ℕ) (left left_after taken taken_after : Option (List ℕ)) (answers : List Answer) (items : List Item) (last : End) : Type 0 where
   pub given : List Answer
   pub failures : RoseBy (failures_in given) faults faults_after
+  pub stopped : last ≡ end.Stopped cause.Disk → RoseBy (failures_in given + 1) faults faults_after
   pub out : List ℕ
   pub taken_is : taken_after ≡ append_known taken out
   pub replay : IsReplay Comes outlet left left_after given answers items last out
@@ -68,17 +68,17 @@ IsUnrefused other = Unit {0}
 abbrev pub HasItsStore : End → Type 0
 HasItsStore last = IsUnrefused last × (last ≢ end.Stopped cause.Disk)
 
--- a session over a store in memory as its opening says begins here
-abbrev pub start_of : Opening → State
-start_of opening = zero_start opening.pages opening.entries opening.cache
+-- a session over so many zero pages in memory as it begins
+abbrev pub start_of : ℕ → Opening → State
+start_of pages opening = zero_start pages opening.entries opening.cache
 
--- a replay over a store in memory wrote this, and nothing failed by the outside
-pub record RunsInMemory (opening : Opening) (outlet : Outlet) (left left_after taken taken_after : Option (List ℕ)) (answers : List Answer) (items : List Item) (last : End) : Type 0 where
+-- a replay over zero pages in memory wrote this, and nothing failed by the outside
+pub record RunsInMemory (pages : ℕ) (opening : Opening) (outlet : Outlet) (left left_after taken taken_after : Option (List ℕ)) (answers : List Answer) (items : List Item) (last : End) : Type 0 where
   pub given : List Answer
   pub unfailing : failures_in given ≡ 0
   pub out : List ℕ
   pub taken_is : taken_after ≡ append_known taken out
-  pub replay : IsReplay (ComesFrom opening.entries (start_of opening)) outlet left left_after given answers items last out
+  pub replay : IsReplay (ComesFrom opening.entries (start_of pages opening)) outlet left left_after given answers items last out
 
 -- the words were refused, and this was written
 pub record RunsRefusal (refused : Cause) (left left_after taken taken_after : Option (List ℕ)) (answers : List Answer) (items : List Item) (last : End) : Type 0 where
@@ -102,37 +102,17 @@ pub record RunsAudit (left left_after taken taken_after : Option (List ℕ)) (an
   pub answered : answers ≡ []
   pub recorded : items ≡ []
 
--- what a command does: what was read, answered, recorded and written
-abbrev pub RunsCommand : Command → Option (List ℕ) → Option (List ℕ) → Option (List ℕ) → Option (List ℕ) → List Answer → List Item → End → Type 0
-RunsCommand (command.Replay opening outlet) left left_after taken taken_after answers items last = RunsInMemory opening outlet left left_after taken taken_after answers items last
-RunsCommand command.Audit left left_after taken taken_after answers items last = RunsAudit left left_after taken taken_after answers items last
-
--- a call of `run` does what its words ask
-abbrev pub IsRun : List (List ℕ) → Option (List ℕ) → Option (List ℕ) → Option (List ℕ) → Option (List ℕ) → List Answer → List Item → End → Type 0
-IsRun words left left_after taken taken_after answers items last = MatchResult (command_of words)
-    (λ command. RunsCommand command left left_after taken taken_after answers items last)
-    (λ refused. RunsRefusal refused left left_after taken taken_after answers items last)
-
--- a replay over a store in memory ended in a session: the answers, and the trail of that session, are those of what lines at the front
--- of the source ask for. The trail is legal over the array with which the session began, and so is the whole history: the trail, and
--- then the calls that are pending
-pub record IsLegalInMemory (opening : Opening) (outlet : Outlet) (left : Option (List ℕ)) (answers : List Answer) (items : List Item) : Type 0 where
+-- a replay from a start ended in a session: the answers, and the trail of that session, are those of what lines at the front of the
+-- source ask for. The trail is legal over the array with which the session began, and so is the whole history: the trail, and then the
+-- calls that are pending
+pub record IsLegalFrom (entries : ℕ) (start : State) (outlet : Outlet) (left : Option (List ℕ)) (answers : List Answer) (items : List Item) : Type 0 where
   pub lines : List (List ℕ)
   pub rest : Option (List ℕ)
   pub reads : ReadsLines left lines rest
   pub given : List Answer
   pub answered : answers ≡ kept_of outlet given
   pub last : Standing
-  pub plays : Plays by_machine opening.entries (begun (start_of opening)) (asked_in lines) given last
+  pub plays : Plays by_machine entries (begun start) (asked_in lines) given last
   pub recorded : items ≡ last.state.shared.trail
   pub legal : IsLegal last.found.image items
   pub whole : IsLegal last.found.image (whole_of last.state)
-
--- what a command leaves is legal: a replay's answers and trail, and of an audit there is no trail
-abbrev pub IsLegalCommand : Command → Option (List ℕ) → List Answer → List Item → Type 0
-IsLegalCommand (command.Replay opening outlet) left answers items = IsLegalInMemory opening outlet left answers items
-IsLegalCommand command.Audit left answers items = items ≡ []
-
--- a replay is legal over the store that the words ask for, and the trail is empty where the words are refused
-abbrev pub IsLegalRun : List (List ℕ) → Option (List ℕ) → List Answer → List Item → Type 0
-IsLegalRun words left answers items = MatchResult (command_of words) (λ command. IsLegalCommand command left answers items) (λ refused. items ≡ [])

@@ -5,6 +5,7 @@ pub mod Command
 pub mod CommandLaws
 pub mod Ending
 pub mod Grammar
+pub mod Leaving
 pub mod LineLaws
 pub mod Lines
 pub mod Machine
@@ -18,3 +19,7 @@ pub mod Session
 pub mod Status
 pub mod Taking
 pub mod Texts
+pub mod Shelving
+pub mod StoreRuns
+pub mod Running
+pub mod LeavingLaws

@@ -1,11 +1,9 @@
-use Rattle.std.specs.Prelude.{◌≡◌, ◌≢◌, ◌⊎◌, ◌↔◌, ◌≤◌, ℕ, List, [], ◌∷◌, ◌++◌, All, Ok, codes}
+use Rattle.std.specs.Prelude.{◌≡◌, ◌≢◌, ◌⊎◌, ◌↔◌, ℕ, List, [], ◌∷◌, All}
 use Rattle.std.specs.Fmt.{decimal}
 use Rattle.casper_words.specs.Crew.{IsClient}
 use Rattle.casper_text.specs.Line.{IsPrintable, words}
 use Rattle.casper_app.specs.declared.schedule.Asked.{Asked}
 use Rattle.casper_app.specs.declared.schedule.Parsed.TheVariants as parsed
-use Rattle.casper_app.specs.declared.command.Command.TheVariants as command
-use Rattle.casper_app.specs.Command.{command_of, replay_of_pages}
 use Rattle.casper_app.specs.Grammar.{words_of_asked, IsAskable}
 use Rattle.casper_app.specs.Schedule.{parsed_line}
 
@@ -46,16 +44,3 @@ pub record IsSorted (line : List ℕ) : Type 0 where
 
 abbrev pub LinesAreSorted : Type 0
 LinesAreSorted = (line : List ℕ) → IsSorted line
-
--- the words of a replay over so many zero pages
-abbrev pub words_of_replay : ℕ → List (List ℕ)
-words_of_replay pages = codes "replay" ∷ (codes "mem:" ++ decimal pages) ∷ []
-
--- these words, and no others, ask for a replay over so many pages, from 1 to 16,384
-abbrev pub ReplaysHaveOneText : Type 0
-ReplaysHaveOneText = (list : List (List ℕ)) (pages : ℕ)
-    → (command_of list ≡ Ok (replay_of_pages pages)) ↔ ((1 ≤ pages) × (pages ≤ 16384) × (list ≡ words_of_replay pages))
-
--- these words, and no others, ask for an audit
-abbrev pub AuditsHaveOneText : Type 0
-AuditsHaveOneText = (list : List (List ℕ)) → (command_of list ≡ Ok command.Audit) ↔ (list ≡ codes "audit" ∷ [])

@@ -1,23 +1,22 @@
 use Rattle.std.specs.Prelude.{◌≡◌}
-use Rattle.casper_report.specs.declared.refusal.Refusal.TheVariants as refusal
 use Rattle.casper_root.specs.declared.fault.OpenFault.{OpenFault}
-use Rattle.casper_root.specs.declared.fault.OpenFault.TheVariants as fault
+use Rattle.casper_stores.specs.Faults.{opening_fault}
+use Rattle.casper_stores.specs.declared.fault.StoreFault.{StoreFault}
+use Rattle.casper_stores.specs.declared.fault.StoreFault.TheVariants as store
 use Rattle.casper_app.specs.declared.cause.Cause.{Cause}
 use Rattle.casper_app.specs.declared.cause.Cause.TheVariants as cause
 use Rattle.casper_app.specs.declared.schedule.Asked.{Asked}
 use Rattle.casper_app.specs.declared.schedule.Asked.TheVariants as asks
 
--- why a call ends whose store was not opened
+-- why a call ends whose command on a store was not carried out
+abbrev pub cause_of_store : StoreFault → Cause
+cause_of_store store.Memory = cause.Memory
+cause_of_store store.Disk = cause.Disk
+cause_of_store (store.Refused refusal) = cause.Refused refusal
+
+-- and one whose store was not opened
 abbrev pub cause_of_opening : OpenFault → Cause
-cause_of_opening fault.Memory = cause.Memory
-cause_of_opening fault.Disk = cause.Disk
-cause_of_opening fault.NotAStore = cause.Refused refusal.NotAStore
-cause_of_opening (fault.Version number) = cause.Refused (refusal.Version number)
-cause_of_opening (fault.BadSize pages frames) = cause.Refused (refusal.BadSize pages frames)
-cause_of_opening (fault.Short need have) = cause.Refused (refusal.Short need have)
-cause_of_opening fault.NoRoot = cause.Refused refusal.NoRoot
-cause_of_opening (fault.BadBody seq count) = cause.Refused (refusal.BadBody seq count)
-cause_of_opening (fault.BadMap page frame) = cause.Refused (refusal.BadMap page frame)
+cause_of_opening fault = cause_of_store (opening_fault fault)
 
 -- a cause that is no refusal of a store
 abbrev pub IsNoRefusal : Cause → Type 0

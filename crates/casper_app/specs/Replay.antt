@@ -39,6 +39,8 @@ pub record AsksLast (lines : List (List ℕ)) : Type 0 where
 abbrev pub cause_of : End → Option Cause
 cause_of (end.Done summary) = None
 cause_of (end.Legal entries) = None
+cause_of (end.Formatted pages frames) = None
+cause_of (end.Checked found) = None
 cause_of (end.Stopped cause) = Some cause
 
 -- a line stands next that asks for something

@@ -2,7 +2,7 @@ use Rattle.std.specs.Prelude.{ℕ}
 use Rattle.casper_app.specs.declared.cause.Cause.{Cause}
 use Rattle.casper_app.specs.declared.cause.Cause.TheVariants.{Usage, Read, Write, Disk, Refused, Memory, BadLine, Illegal, Unbuilt}
 use Rattle.casper_app.specs.declared.end.End.{End}
-use Rattle.casper_app.specs.declared.end.End.TheVariants.{Done, Legal, Stopped}
+use Rattle.casper_app.specs.declared.end.End.TheVariants.{Done, Legal, Formatted, Checked, Stopped}
 
 -- the status that stands for a cause
 abbrev pub status_of : Cause → ℕ
@@ -20,4 +20,6 @@ status_of (Unbuilt line) = 10
 abbrev pub status_of_end : End → ℕ
 status_of_end (Done summary) = 0
 status_of_end (Legal entries) = 0
+status_of_end (Formatted pages frames) = 0
+status_of_end (Checked found) = 0
 status_of_end (Stopped cause) = status_of cause

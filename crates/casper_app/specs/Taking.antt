@@ -4,6 +4,7 @@ use Rattle.casper_io.specs.Lines.{TakesTooLong, TakesPart}
 use Rattle.casper_io.specs.Told.{WhereTold, TakesFront}
 use Rattle.casper_space.specs.declared.answer.Answer.{Answer}
 use Rattle.casper_report.specs.Texts.{answer_line, answer_lines}
+use Rattle.casper_disk.specs.Vault.{Saved}
 use Rattle.casper_app.specs.declared.cause.Cause.{Cause}
 use Rattle.casper_app.specs.declared.cause.Cause.TheVariants as cause
 use Rattle.casper_app.specs.declared.outlet.Outlet.{Outlet}
@@ -18,14 +19,14 @@ use Rattle.casper_app.specs.Lines.{asked_of_line, IsTaken}
 use Rattle.casper_app.specs.Outlet.{kept_of, written_of}
 
 -- what was done for what was asked, where it was answered, and where it was not
-abbrev pub CarriesAsked : {V : Type 0} → Bool → (V → ℕ) → Asked → Option Answer → Sessions V → Sessions V → Type 0
-CarriesAsked tells faults asked None before after = MakesNone tells faults before after
-CarriesAsked tells faults asked (Some given) before after = MakesStep tells faults asked given before after
+abbrev pub CarriesAsked : {V : Type 0} → Bool → (V → ℕ) → (V → ℕ) → (V → ℕ → Saved → Type 0) → Asked → Option Answer → Sessions V → Sessions V → Type 0
+CarriesAsked tells faults moment since asked None before after = MakesNone tells faults moment since before after
+CarriesAsked tells faults moment since asked (Some given) before after = MakesStep tells faults moment since asked given before after
 
 -- what a line did: what it asks for was answered, or nothing was
-abbrev pub CarriesLine : {V : Type 0} → Bool → (V → ℕ) → List ℕ → Option Answer → Sessions V → Sessions V → Type 0
-CarriesLine tells faults line None before after = MakesNone tells faults before after
-CarriesLine tells faults line (Some given) before after = (asked : Asked) × (asked_of_line line ≡ Some asked) × MakesStep tells faults asked given before after
+abbrev pub CarriesLine : {V : Type 0} → Bool → (V → ℕ) → (V → ℕ) → (V → ℕ → Saved → Type 0) → List ℕ → Option Answer → Sessions V → Sessions V → Type 0
+CarriesLine tells faults moment since line None before after = MakesNone tells faults moment since before after
+CarriesLine tells faults moment since line (Some given) before after = (asked : Asked) × (asked_of_line line ≡ Some asked) × MakesStep tells faults moment since asked given before after
 
 -- an answer, where there is one, is to be written
 abbrev pub IsDue : Outlet → Option Answer → Type 0
@@ -51,9 +52,9 @@ WritesAnswer asked outlet given before after (Err (cause.Illegal at rule)) = ⊥
 WritesAnswer asked outlet given before after (Err (cause.Unbuilt n)) = ⊥
 
 -- what was asked for was answered, or it was not; the answer was kept and written, as the outlet says
-pub record TakesAsked {V : Type 0} (tells : Bool) (faults : V → ℕ) (asked : Asked) (old new : Replay V) (before after : Option (List ℕ)) (result : Result (Unit {0}) Cause) : Type 0 where
+pub record TakesAsked {V : Type 0} (tells : Bool) (faults moment : V → ℕ) (since : V → ℕ → Saved → Type 0) (asked : Asked) (old new : Replay V) (before after : Option (List ℕ)) (result : Result (Unit {0}) Cause) : Type 0 where
   pub given : Option Answer
-  pub carries : CarriesAsked tells faults asked given old.sessions new.sessions
+  pub carries : CarriesAsked tells faults moment since asked given old.sessions new.sessions
   pub outlet : new.outlet ≡ old.outlet
   pub kept : new.answers.items ≡ old.answers.items ++ kept_of old.outlet (option_to_list given)
   pub writes : WritesAnswer asked old.outlet given before after result
@@ -76,9 +77,9 @@ WritesForLine number line outlet given before after (Err (cause.Illegal at rule)
 WritesForLine number line outlet given before after (Err (cause.Unbuilt n)) = (n ≡ number) × (parsed_line line ≡ parsed.Unbuilt) × (given ≡ None) × (after ≡ before)
 
 -- a line was answered, skipped or refused
-pub record TakesInput {V : Type 0} (tells : Bool) (faults : V → ℕ) (number : ℕ) (line : List ℕ) (old new : Replay V) (before after : Option (List ℕ)) (result : Result (Unit {0}) Cause) : Type 0 where
+pub record TakesInput {V : Type 0} (tells : Bool) (faults moment : V → ℕ) (since : V → ℕ → Saved → Type 0) (number : ℕ) (line : List ℕ) (old new : Replay V) (before after : Option (List ℕ)) (result : Result (Unit {0}) Cause) : Type 0 where
   pub given : Option Answer
-  pub carries : CarriesLine tells faults line given old.sessions new.sessions
+  pub carries : CarriesLine tells faults moment since line given old.sessions new.sessions
   pub outlet : new.outlet ≡ old.outlet
   pub kept : new.answers.items ≡ old.answers.items ++ kept_of old.outlet (option_to_list given)
   pub writes : WritesForLine number line old.outlet given before after result

@@ -3,6 +3,7 @@ use Rattle.std.specs.Fmt.{decimal}
 use Rattle.casper_report.specs.Refusals.{counts, refusal_line}
 use Rattle.casper_report.specs.Summary.{summary_line}
 use Rattle.casper_report.specs.Texts.{as_line, joined, word_line}
+use Rattle.casper_stores.specs.Lines.{formatted_line, checked_line}
 use Rattle.casper_audit.specs.declared.verdict.AuditRule.{AuditRule}
 use Rattle.casper_audit.specs.declared.verdict.AuditRule.TheVariants as rule
 use Rattle.casper_app.specs.declared.cause.Cause.{Cause}
@@ -32,12 +33,16 @@ cause_line (cause.Unbuilt n) = as_line (codes "unbuilt " ++ decimal n)
 abbrev pub end_line : End → List ℕ
 end_line (end.Done summary) = summary_line summary
 end_line (end.Legal entries) = word_line (codes "legal") entries
+end_line (end.Formatted pages frames) = formatted_line pages frames
+end_line (end.Checked found) = checked_line found
 end_line (end.Stopped cause) = cause_line cause
 
 -- whether the line that tells how a call ended tells a number: its text takes memory, and each other one is constant
 abbrev pub tells_number : End → Bool
 tells_number (end.Done summary) = true
 tells_number (end.Legal entries) = true
+tells_number (end.Formatted pages frames) = true
+tells_number (end.Checked found) = true
 tells_number (end.Stopped cause.Usage) = false
 tells_number (end.Stopped cause.Read) = false
 tells_number (end.Stopped cause.Write) = false

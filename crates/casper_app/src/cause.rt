@@ -3,6 +3,7 @@ ghost use Rattle.std.specs.Prelude.{◌≡◌};
 use casper_audit::AuditRule;
 use casper_report::Refusal;
 use casper_root::OpenFault;
+use casper_stores::StoreFault;
 use casper_words::Memory;
 
 /// Why a call of `run` ended before it was done.
@@ -14,7 +15,7 @@ pub enum Cause {
     Read,
     /// The sink failed.
     Write,
-    /// The disk failed at an opening.
+    /// The shelf or a disk failed as a store was made, opened or checked.
     Disk,
     /// The store was refused.
     Refused(Refusal),
@@ -60,6 +61,21 @@ impl From<Memory> for Cause {
     }
 }
 
+impl From<StoreFault> for Cause {
+    ghost use Rattle.std.specs.Prelude.{◌≡◌};
+    ghost use Rattle.casper_app.specs.Opening.{cause_of_store};
+
+    ghost from_gives = { λ fault made. made ≡ cause_of_store fault };
+
+    fn from(fault: StoreFault) -> Cause {
+        match fault {
+            StoreFault::Memory => Cause::Memory,
+            StoreFault::Disk => Cause::Disk,
+            StoreFault::Refused(refusal) => Cause::Refused(refusal),
+        }
+    }
+}
+
 impl From<OpenFault> for Cause {
     ghost use Rattle.std.specs.Prelude.{◌≡◌};
     ghost use Rattle.casper_app.specs.Opening.{cause_of_opening};
@@ -67,18 +83,6 @@ impl From<OpenFault> for Cause {
     ghost from_gives = { λ fault made. made ≡ cause_of_opening fault };
 
     fn from(fault: OpenFault) -> Cause {
-        match fault {
-            OpenFault::Memory => Cause::Memory,
-            OpenFault::Disk => Cause::Disk,
-            OpenFault::NotAStore => Cause::Refused(Refusal::NotAStore),
-            OpenFault::Version(version) => Cause::Refused(Refusal::Version(version)),
-            OpenFault::BadSize { pages, frames } => {
-                Cause::Refused(Refusal::BadSize { pages, frames })
-            }
-            OpenFault::Short { need, have } => Cause::Refused(Refusal::Short { need, have }),
-            OpenFault::NoRoot => Cause::Refused(Refusal::NoRoot),
-            OpenFault::BadBody { seq, count } => Cause::Refused(Refusal::BadBody { seq, count }),
-            OpenFault::BadMap { page, frame } => Cause::Refused(Refusal::BadMap { page, frame }),
-        }
+        StoreFault::from(fault).into()
     }
 }

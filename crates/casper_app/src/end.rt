@@ -2,6 +2,7 @@ ghost use Rattle.std.specs.Prelude.{◌≡◌};
 
 use crate::Cause;
 use casper_report::Summary;
+use casper_stores::Checked;
 
 /// How a call of `run` ended.
 #[derive(Clone, Copy, Debug, PartialEq, Eq)]
@@ -10,6 +11,10 @@ pub enum End {
     Done(Summary),
     /// The trail whose text was read is legal with exact marks, and has so many entries.
     Legal(u32),
+    /// A store of so many pages and frames was made.
+    Formatted { pages: u32, frames: u32 },
+    /// A store was opened and closed, and this was found.
+    Checked(Checked),
     /// It ended before, for this cause.
     Stopped(Cause),
 }
@@ -22,7 +27,7 @@ impl End {
         ensures { result ≡ status_of_end self.now }
     {
         match self {
-            End::Done(_) | End::Legal(_) => 0,
+            End::Done(_) | End::Legal(_) | End::Formatted { .. } | End::Checked(_) => 0,
             End::Stopped(cause) => cause.status(),
         }
     }

@@ -7,6 +7,7 @@ use crate::{Cause, End};
 use casper_audit::AuditRule;
 use casper_io::{Sink, put_all};
 use casper_report::{constant_refusal, refusal_text, summary_text};
+use casper_stores::{checked_text, formatted_text};
 use casper_words::Memory;
 use std::alloc::Global;
 
@@ -50,6 +51,7 @@ fn constant_line(said: &End) -> Option<&'static [u8]>
         End::Stopped(Cause::Refused(refusal)) => return constant_refusal(refusal),
         End::Stopped(Cause::Memory) => b"no memory\n",
         End::Done(_) | End::Legal(_) => return None,
+        End::Formatted { .. } | End::Checked(_) => return None,
         End::Stopped(Cause::BadLine(_) | Cause::Illegal { .. } | Cause::Unbuilt(_)) => return None,
     };
     Some(line)
@@ -63,6 +65,8 @@ fn end_text(alloc: Global, said: &End) -> Result<Vec<u8>, Memory>
     match said {
         End::Done(summary) => summary_text(alloc, summary),
         End::Legal(entries) => Ok(format!(in alloc; "legal {entries}\n")?.into_bytes()),
+        End::Formatted { pages, frames } => formatted_text(alloc, *pages, *frames),
+        End::Checked(found) => checked_text(alloc, found),
         End::Stopped(cause) => cause_text(alloc, cause),
     }
 }

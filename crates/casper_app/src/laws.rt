@@ -1,19 +1,18 @@
 ghost use Rattle.casper_app.specs.CommandLaws.{WordsAreSorted};
 ghost use Rattle.casper_app.specs.Grammar.{LinesAreReadBack, LinesHaveOneText};
-ghost use Rattle.casper_app.specs.LineLaws.{LinesAreSorted, ReplaysHaveOneText, AuditsHaveOneText};
+ghost use Rattle.casper_app.specs.LineLaws.{LinesAreSorted};
 ghost use Rattle.casper_app.specs.Machine.{UnfailingSessions, LinesNameClients, SessionsAreLegal, SessionsKeepCalls, SessionsKeepCallsButDropped};
+ghost use Rattle.casper_app.specs.LeavingLaws.{EachStopInAScheduleLeavesAClosedPart};
 ghost use Rattle.casper_app.specs.Chain.{PlaysAreSessions, PlayedSessionsAreAChain};
 
 /// The lines of a schedule and what they ask for determine each other. Each line is one of these and no other: it is skipped, as a
 /// comment or without a word; it has the words of an event, or of a reopen; it has those of neither and begins with a client's number;
-/// or it is bad. One pair of words asks for a replay over a store in memory, and one word for
-/// an audit; and each list of words is one of these, or is that of a command that is not built yet, or is no command. It does nothing.
+/// or it is bad. The words of each command are told exactly, and each list of words is that of a command, or of one that is not built
+/// yet, or is no command. It does nothing.
 pub fn schedule_laws()
     ensures read_back { LinesAreReadBack }
     ensures one_text { LinesHaveOneText }
     ensures sorted { LinesAreSorted }
-    ensures replays { ReplaysHaveOneText }
-    ensures audits { AuditsHaveOneText }
     ensures commands { WordsAreSorted }
 {}
 
@@ -35,4 +34,10 @@ pub fn session_laws()
 pub fn chain_laws()
     ensures sessions { PlaysAreSessions }
     ensures chain { PlayedSessionsAreAChain }
+{}
+
+/// Over an array with nothing in doubt, what a stop in a schedule of clients leaves is the array of a part of the history of the session that
+/// it ends, as its trail was then. The part has every cause of what it has, and everything stable. It does nothing.
+pub fn leaving_laws()
+    ensures closed { EachStopInAScheduleLeavesAClosedPart }
 {}

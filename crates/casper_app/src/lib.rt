@@ -13,12 +13,13 @@ mod replay;
 mod room;
 mod schedule;
 mod sessions;
+mod stores;
 mod taking;
 mod top;
 
 pub use cause::Cause;
-pub use command::{Command, Opening};
+pub use command::{Backing, Command, Opening};
 pub use end::End;
-pub use laws::{chain_laws, schedule_laws, session_laws};
+pub use laws::{chain_laws, leaving_laws, schedule_laws, session_laws};
 pub use outlet::Outlet;
 pub use top::{Ended, carry_out, run};

@@ -24,8 +24,8 @@ pub(crate) fn take_lines<V: Vault + Reopen, S: Source, K: Sink>(
     requires limit { replay.old.sessions.entries ≤ 4194304 }
     requires source { S.is_broken source.old ≡ false }
     requires sink { K.is_broken sink.old ≡ false }
-    ensures reading { IsReading V.tells V.faults (S.left source.old) (S.left source.new)
-        (K.taken sink.old) (K.taken sink.new)
+    ensures reading { IsReading V.tells V.faults V.moment V.images_since (S.left source.old)
+        (S.left source.new) (K.taken sink.old) (K.taken sink.new)
         replay.old replay.new result }
     ensures read_fault { result ≡ Err Cause.Read
         → FaultCountRose (S.faults source.old) (S.faults source.new) }
@@ -40,6 +40,8 @@ pub(crate) fn take_lines<V: Vault + Reopen, S: Source, K: Sink>(
     ensures sink_whole { (result ≡ Err Cause.Write) ⊎ (K.is_broken sink.new ≡ false) }
 {
     let _mark: Option<Mark> = None;
+    // What is true of every core holds also where there is no line.
+    let _calls = replay.sessions.core.calls();
     for lines in 0..MOST_LINES {
         if !read_line(source, &mut room.line, lines + 1)? {
             return Ok(lines);

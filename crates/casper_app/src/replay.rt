@@ -40,13 +40,14 @@ impl<V: Vault + Reopen> Replay<V> {
     pub(crate) fn answer(&mut self, asked: &Asked) -> Result<Answer, Cause>
         requires built { MayBeAsked asked.now }
         requires limit { self.old.sessions.entries ≤ 4194304 }
-        ensures step { IfOk result (λ answer. MakesStep V.tells V.faults asked.now answer
-            self.old.sessions self.new.sessions) }
+        ensures step { IfOk result (λ answer. MakesStep V.tells V.faults V.moment V.images_since
+            asked.now answer self.old.sessions self.new.sessions) }
         ensures kept { IfOk result (λ answer. self.new.answers.items
             ≡ self.old.answers.items ++ kept_of self.old.outlet (answer ∷ [])) }
         ensures outlet { self.new.outlet ≡ self.old.outlet }
         ensures none { OnErr result
-            (MakesNone V.tells V.faults self.old.sessions self.new.sessions) }
+            (MakesNone V.tells V.faults V.moment V.images_since self.old.sessions
+            self.new.sessions) }
         ensures same { OnErr result (self.new.answers.items ≡ self.old.answers.items) }
         ensures why { IfErr result (IsWhy asked.now) }
         ensures unrefused { IsTrue V.tells → IfErr result IsNoRefusal }
@@ -54,6 +55,8 @@ impl<V: Vault + Reopen> Replay<V> {
             (V.faults self.old.sessions.core.vault) (V.faults self.new.sessions.core.vault) }
     {
         let _mark: Option<Mark> = None;
+        // What is true of every core is so before the answer, and where there is none.
+        let _calls = self.sessions.core.calls();
         self.make_room()?;
         let answer = match asked {
             Asked::Event(event) => self.sessions.carry_out(event)?,

@@ -28,9 +28,10 @@ impl<V: Vault + Reopen> Sessions<V> {
     /// Carries an event out, and answers it. Where memory is short nothing changes.
     pub(crate) fn carry_out(&mut self, event: &Event) -> Result<Answer, Memory>
         requires { IsBuilt event.now }
-        ensures step { IfOk result (λ answer. MakesStep V.tells V.faults (Asked.Event event.now)
-            answer self.old self.new) }
-        ensures none { OnErr result (MakesNone V.tells V.faults self.old self.new) }
+        ensures step { IfOk result (λ answer. MakesStep V.tells V.faults V.moment V.images_since
+            (Asked.Event event.now) answer self.old self.new) }
+        ensures none { OnErr result
+            (MakesNone V.tells V.faults V.moment V.images_since self.old self.new) }
         ensures entries { self.new.entries ≡ self.old.entries }
     {
         let _mark: Option<Mark> = None;
@@ -43,15 +44,18 @@ impl<V: Vault + Reopen> Sessions<V> {
     /// Opens the store again and begins a new session: nobody is there, and the trail is empty. After a fault nothing has changed.
     pub(crate) fn reopen(&mut self) -> Result<Answer, OpenFault>
         requires { self.old.entries ≤ 4194304 }
-        ensures step { IfOk result
-            (λ answer. MakesStep V.tells V.faults Asked.Reopen answer self.old self.new) }
-        ensures none { OnErr result (MakesNone V.tells V.faults self.old self.new) }
+        ensures step { IfOk result (λ answer. MakesStep V.tells V.faults V.moment V.images_since
+            Asked.Reopen answer self.old self.new) }
+        ensures none { OnErr result
+            (MakesNone V.tells V.faults V.moment V.images_since self.old self.new) }
         ensures outside { IsTrue V.tells → IfErr result IsOfTheOutside }
         ensures counted { IsErrOf result OpenFault.Disk
             → FaultCountRose (V.faults self.old.core.vault) (V.faults self.new.core.vault) }
         ensures entries { self.new.entries ≡ self.old.entries }
     {
         let _mark: Option<Mark> = None;
+        // What is true of every core is so before the store is opened again.
+        let _calls = self.core.calls();
         let past = self.past.with(self.core.hub().trail());
         self.core.reopen(self.entries)?;
         self.past = past;

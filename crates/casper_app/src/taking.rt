@@ -56,8 +56,8 @@ impl<V: Vault + Reopen> Replay<V> {
     ) -> Result<(), Cause>
         requires limit { self.old.sessions.entries ≤ 4194304 }
         requires whole { K.is_broken sink.old ≡ false }
-        ensures takes { TakesInput V.tells V.faults number room.old.line self.old self.new
-            (K.taken sink.old) (K.taken sink.new) result }
+        ensures takes { TakesInput V.tells V.faults V.moment V.images_since number room.old.line
+            self.old self.new (K.taken sink.old) (K.taken sink.new) result }
         ensures read { result ≢ Err Cause.Read }
         ensures unrefused { IsTrue V.tells → IfErr result IsNoRefusal }
         ensures disk { result ≡ Err Cause.Disk → FaultCountRose
@@ -68,6 +68,8 @@ impl<V: Vault + Reopen> Replay<V> {
         ensures sink_whole { (result ≡ Err Cause.Write) ⊎ (K.is_broken sink.new ≡ false) }
     {
         let _mark: Option<Mark> = None;
+        // What is true of every core holds also where the line asks for nothing.
+        let _calls = self.sessions.core.calls();
         match parse_line(room.line.bytes(), &mut room.places) {
             Parsed::Skip => Ok(()),
             Parsed::Asked(asked) => self.take_asked(&asked, &mut room.text, sink),
@@ -86,8 +88,8 @@ impl<V: Vault + Reopen> Replay<V> {
         requires built { MayBeAsked asked.now }
         requires limit { self.old.sessions.entries ≤ 4194304 }
         requires whole { K.is_broken sink.old ≡ false }
-        ensures takes { TakesAsked V.tells V.faults asked.now self.old self.new (K.taken sink.old)
-            (K.taken sink.new) result }
+        ensures takes { TakesAsked V.tells V.faults V.moment V.images_since asked.now self.old
+            self.new (K.taken sink.old) (K.taken sink.new) result }
         ensures read { result ≢ Err Cause.Read }
         ensures unrefused { IsTrue V.tells → IfErr result IsNoRefusal }
         ensures disk { result ≡ Err Cause.Disk → FaultCountRose

@@ -1,5 +1,5 @@
 use Rattle.casper_app.proofs.GrammarLemmas.{lines_are_read_back, lines_have_one_text}
-use Rattle.casper_app.proofs.LineLawLemmas.{lines_are_sorted, replays_have_one_text, audits_have_one_text}
+use Rattle.casper_app.proofs.LineLawLemmas.{lines_are_sorted}
 use Rattle.casper_app.proofs.CommandLawLemmas.{words_are_sorted}
 use Rattle.casper_app.proofs.laws.schedule_laws.Goals as goal
 
@@ -11,12 +11,6 @@ returns-clause-one_text c = lines_have_one_text
 
 pub returns-clause-sorted : goal.returns-clause-sorted
 returns-clause-sorted c = lines_are_sorted
-
-pub returns-clause-replays : goal.returns-clause-replays
-returns-clause-replays c = replays_have_one_text
-
-pub returns-clause-audits : goal.returns-clause-audits
-returns-clause-audits c = audits_have_one_text
 
 pub returns-clause-commands : goal.returns-clause-commands
 returns-clause-commands c = words_are_sorted

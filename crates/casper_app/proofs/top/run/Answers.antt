@@ -1,5 +1,5 @@
 use Rattle.std.proofs.Common.{inl, inr}
-use Rattle.casper_app.proofs.RunLemmas.{not_write}
+use Rattle.casper_app.proofs.EndLemmas.{not_write}
 use Rattle.casper_app.proofs.top.run.Goals as goal
 
 pub returns-in-Err-clause-write_fault : goal.returns-in-Err-clause-write_fault

@@ -13,7 +13,7 @@ returns-then-not-writes-clause-takes g c = record {
 
 pub returns-in_err-text-clause-takes : goal.returns-in_err-text-clause-takes
 returns-in_err-text-clause-takes g c =
-    memory_short g.V.Vault.tells g.V.Vault.faults c.args.asked.now c.in_ok-answer.answer c.args.self.now c.answer.new.self (g.K.Sink.taken c.args.sink.now)
+    memory_short g.V.Vault.tells g.V.Vault.faults g.V.Vault.moment g.V.Vault.images_since c.args.asked.now c.in_ok-answer.answer c.args.self.now c.answer.new.self (g.K.Sink.taken c.args.sink.now)
     c.from_residual-in_err-text.result c.from_residual-in_err-text.ensures.1 c.in_ok-answer.ensures.step c.in_ok-answer.ensures.outlet c.in_ok-answer.ensures.kept
     (written_whole _ _ c.in_ok-answer.answer c.in_ok-answer.ensures.outlet (sym c.writes.ensures ∙ c.if-not-writes.false))
 
@@ -46,5 +46,5 @@ returns-in-Err-Failed-clause-takes g c = record {
 
 pub returns-in_err-answer-clause-takes : goal.returns-in_err-answer-clause-takes
 returns-in_err-answer-clause-takes g c =
-    unanswered g.V.Vault.tells g.V.Vault.faults c.args.asked.now c.in_err-answer.field-0.0 c.args.self.now c.answer.new.self (g.K.Sink.taken c.args.sink.now)
+    unanswered g.V.Vault.tells g.V.Vault.faults g.V.Vault.moment g.V.Vault.images_since c.args.asked.now c.in_err-answer.field-0.0 c.args.self.now c.answer.new.self (g.K.Sink.taken c.args.sink.now)
     c.from_residual.result c.from_residual.ensures.1 c.in_err-answer.ensures.why c.in_err-answer.ensures.none c.in_err-answer.ensures.outlet c.in_err-answer.ensures.same
