@@ -1,14 +1,16 @@
-//! The program: hands its words, its input and its output to the top call, and ends with the call's status.
+//! The program: hands its words, the files of the system, its input and its output to the top call, and ends with the call's status.
 #![tactic(auto)]
 
 ghost use Rattle.std.specs.Prelude.{◌≡◌, ◌⊎◌, false, IfOk, OnErr};
 ghost use Rattle.std.specs.Iterator.{IsFinite};
 ghost use Rattle.std.specs.Process.{exit_status};
 ghost use Rattle.casper_words.specs.Count.{FaultCountRose};
+ghost use Rattle.casper_app.specs.Shelving.{shelving_of};
 ghost use Rattle.casper.specs.Begin.{RunsTo, TellsNoMemory};
 ghost use Rattle.casper.specs.Words.{AreTexts};
 
 use casper_app::{Cause, run};
+use casper_disk::{FileShelf, Shelf};
 use casper_io::{Sink, Source, StdSink, StdSource, put_all};
 use casper_text::Word;
 use casper_words::Memory;
@@ -17,26 +19,27 @@ use std::process::ExitCode;
 use std::{env, io};
 
 fn main(rt: HostRuntime) -> ExitCode {
+    let alloc = rt.alloc();
     let mut sink = StdSink::new(rt.stdout());
-    begin(
-        rt.alloc(),
-        words_given(&rt),
-        StdSource::new(rt.alloc(), rt.stdin()),
-        &mut sink,
-    )
+    let words = words_given(&rt);
+    let source = StdSource::new(alloc, rt.stdin());
+    begin(alloc, words, &mut FileShelf::new(rt), source, &mut sink)
 }
 
 /// Does what the words ask, where there was memory for them and for the source, and ends with the status of the cause.
-fn begin<S: Source + Drop, K: Sink>(
+fn begin<H: Shelf, S: Source + Drop, K: Sink>(
     alloc: Global,
     words: Result<Vec<Word>, Memory>,
+    shelf: &mut H,
     source: Result<S, Memory>,
     sink: &mut K,
 ) -> ExitCode
     requires source { IfOk source (λ source. S.is_broken source ≡ false) }
     requires sink { K.is_broken sink.old ≡ false }
     ensures run { IfOk words (λ words. IfOk source (λ source. (after : S)
-        × RunsTo words.items (S.left source) (S.left after) (S.faults source) (S.faults after)
+        × RunsTo (shelving_of H.tells H.place H.faults H.Disk.faults H.Disk.content
+        H.Disk.loose H.Disk.moment H.Disk.images_since H.Disk.images_now)
+        words.items shelf.old shelf.new (S.left source) (S.left after) (S.faults source) (S.faults after)
         (K.taken sink.old) (K.taken sink.new) (exit_status result))) }
     ensures no_words { OnErr words (TellsNoMemory (K.taken sink.old) (K.taken sink.new)
         (exit_status result)) }
@@ -52,25 +55,28 @@ fn begin<S: Source + Drop, K: Sink>(
     let Ok(mut source) = source else {
         return end_without_memory(sink);
     };
-    run_to_end(alloc, &words, &mut source, sink)
+    run_to_end(alloc, &words, shelf, &mut source, sink)
 }
 
 /// Does what the words ask, and ends with the status of the cause.
-fn run_to_end<S: Source, K: Sink>(
+fn run_to_end<H: Shelf, S: Source, K: Sink>(
     alloc: Global,
     words: &[Word],
+    shelf: &mut H,
     source: &mut S,
     sink: &mut K,
 ) -> ExitCode
     requires source { S.is_broken source.old ≡ false }
     requires sink { K.is_broken sink.old ≡ false }
-    ensures run { RunsTo words.now (S.left source.old) (S.left source.new) (S.faults source.old)
+    ensures run { RunsTo (shelving_of H.tells H.place H.faults H.Disk.faults H.Disk.content
+        H.Disk.loose H.Disk.moment H.Disk.images_since H.Disk.images_now)
+        words.now shelf.old shelf.new (S.left source.old) (S.left source.new) (S.faults source.old)
         (S.faults source.new) (K.taken sink.old) (K.taken sink.new) (exit_status result) }
     ensures write_fault { exit_status result ≡ 4
         → FaultCountRose (K.faults sink.old) (K.faults sink.new) }
     ensures sink_stands { (exit_status result ≡ 4) ⊎ (K.faults sink.new ≡ K.faults sink.old) }
 {
-    let ended = run(alloc, words, source, sink);
+    let ended = run(alloc, words, shelf, source, sink);
     ExitCode::from(ended.status)
 }
 

@@ -1,5 +1,5 @@
-use crate::replaying::{ROOM, replayed, words_of};
-use casper_app::{Cause, Command, End, Opening, Outlet, carry_out, run};
+use crate::replaying::{ROOM, no_shelf, replayed, words_of};
+use casper_app::{Backing, Cause, Command, End, Opening, Outlet, carry_out, run};
 use casper_io::{MemSink, MemSource};
 use casper_space::Answer;
 use casper_words::{Op, Who};
@@ -50,7 +50,7 @@ fn rows(rt: HostRuntime) -> Result<(), Fail> {
             8,
         ),
         ("replay mem:0", b"join 1\n", "usage\n", 2),
-        ("format s 8 16", b"join 1\n", "unbuilt 0\n", 10),
+        ("run s", b"join 1\n", "unbuilt 0\n", 10),
     ];
     for (words, input, output, status) in table {
         let (ended, written) = replayed(rt.alloc(), words, input, &[], &[])?;
@@ -64,19 +64,19 @@ fn rows(rt: HostRuntime) -> Result<(), Fail> {
 fn words(rt: HostRuntime) -> Result<(), Fail> {
     let table = [
         ("", 2),
-        ("replay", 10),
+        ("replay", 2),
         ("replays mem:8", 2),
         ("replay mem:", 2),
         ("replay mem:08", 2),
         ("replay mem:16384", 0),
         ("replay mem:16385", 2),
-        ("replay store", 10),
+        ("replay store", 6),
         ("replay mem:8 --trail", 10),
         ("run mem:8", 10),
         ("gen 0 2 2", 10),
         ("audit", 0),
         ("audit s", 2),
-        ("check u", 10),
+        ("check u", 6),
     ];
     for (words, status) in table {
         let (ended, _written) = replayed(rt.alloc(), words, b"", &[], &[])?;
@@ -167,7 +167,8 @@ fn the_next_line_is_still_there(rt: HostRuntime) -> Result<(), Fail> {
     for (fails, left) in lefts {
         let mut source = MemSource::new(rt.alloc(), ROW, &[])?;
         let mut sink = MemSink::new(rt.alloc(), ROOM, &[fails])?;
-        let ended = run(rt.alloc(), &words, &mut source, &mut sink);
+        let mut shelf = no_shelf(rt.alloc())?;
+        let ended = run(rt.alloc(), &words, &mut shelf, &mut source, &mut sink);
         assert_eq!(rt; ended.last, End::Stopped(Cause::Write), "at {fails}");
         assert_eq!(rt; source.left(), left, "at {fails}");
     }
@@ -178,7 +179,6 @@ fn the_next_line_is_still_there(rt: HostRuntime) -> Result<(), Fail> {
 #[test]
 fn answers_are_kept_or_left_out(rt: HostRuntime) -> Result<(), Fail> {
     let opening = Opening {
-        pages: 8,
         cache: 64,
         entries: 64,
     };
@@ -187,8 +187,16 @@ fn answers_are_kept_or_left_out(rt: HostRuntime) -> Result<(), Fail> {
     for (outlet, answers) in table {
         let mut source = MemSource::new(rt.alloc(), ROW, &[])?;
         let mut sink = MemSink::new(rt.alloc(), ROOM, &[])?;
-        let command = Command::Replay(opening, outlet);
-        let ended = carry_out(rt.alloc(), &command, &mut source, &mut sink);
+        let command = Command::Replay(Backing::Memory(8), opening, outlet);
+        let mut shelf = no_shelf(rt.alloc())?;
+        let ended = carry_out(
+            rt.alloc(),
+            &command,
+            b"",
+            &mut shelf,
+            &mut source,
+            &mut sink,
+        );
         assert_eq!(rt; ended.answers.as_slice(), answers);
         assert_eq!(rt; sink.bytes(), SUMMARY);
     }
@@ -202,7 +210,8 @@ fn what_stands_at_the_end(rt: HostRuntime) -> Result<(), Fail> {
     let input = b"join 1\nwrite 1 5 0 17\nread 1 5 0\nserve 1\n";
     let mut source = MemSource::new(rt.alloc(), input, &[])?;
     let mut sink = MemSink::new(rt.alloc(), ROOM, &[])?;
-    let ended = run(rt.alloc(), &words, &mut source, &mut sink);
+    let mut shelf = no_shelf(rt.alloc())?;
+    let ended = run(rt.alloc(), &words, &mut shelf, &mut source, &mut sink);
     assert!(rt; matches!(ended.last, End::Done(_)));
     let answers = [Answer::Joined, Answer::Ok, Answer::Value(17), Answer::Ok];
     assert_eq!(rt; ended.answers.as_slice(), answers.as_slice());

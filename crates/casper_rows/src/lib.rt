@@ -2,7 +2,11 @@
 #![tactic(auto)]
 
 #[cfg(test)]
+mod files;
+#[cfg(test)]
 mod first_path;
+#[cfg(test)]
+mod images;
 #[cfg(test)]
 mod losses;
 #[cfg(test)]
@@ -13,3 +17,5 @@ mod reopenings;
 mod replaying;
 #[cfg(test)]
 mod stabilisations;
+#[cfg(test)]
+mod stores;

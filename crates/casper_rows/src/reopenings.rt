@@ -1,4 +1,4 @@
-use crate::replaying::{ROOM, replayed, words_of};
+use crate::replaying::{ROOM, no_shelf, replayed, words_of};
 use casper_app::{End, run};
 use casper_io::{MemSink, MemSource};
 use casper_space::Answer;
@@ -51,7 +51,8 @@ fn the_last_trail_is_left(rt: HostRuntime) -> Result<(), Fail> {
         b"join 1\nwrite 1 5 0 17\nserve 1\nreopen\njoin 2\nread 2 5 0\nread 2 5 1\nserve 2\n";
     let mut source = MemSource::new(rt.alloc(), input, &[])?;
     let mut sink = MemSink::new(rt.alloc(), ROOM, &[])?;
-    let ended = run(rt.alloc(), &words, &mut source, &mut sink);
+    let mut shelf = no_shelf(rt.alloc())?;
+    let ended = run(rt.alloc(), &words, &mut shelf, &mut source, &mut sink);
     assert!(rt; matches!(ended.last, End::Done(_)));
     let answers = [
         Answer::Joined,
